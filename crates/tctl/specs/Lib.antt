@@ -1,0 +1,8 @@
+pub mod Graph
+pub mod Runs
+pub mod Rules
+pub mod Holds
+pub mod Checker
+pub mod Example
+pub mod Refine
+pub mod Theorems
