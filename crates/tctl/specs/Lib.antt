@@ -3,6 +3,5 @@ pub mod Runs
 pub mod Rules
 pub mod Holds
 pub mod Checker
-pub mod Example
 pub mod Refine
 pub mod Theorems

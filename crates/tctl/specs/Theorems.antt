@@ -21,7 +21,7 @@ Checker-right = (p : Graph) → Sound p → (f : Rule) (s : ℕ) → T (at (wher
 abbrev pub Refinement-keeps : Type 0
 Refinement-keeps = (p q : Graph) → Ends p → Refines p q → (f : Rule) (s : ℕ) → s < size p → Holds p f s ↔ Holds q f s
 
--- The test of a program is right.
+-- The test of a graph is right.
 abbrev pub Test-right : Type 0
 Test-right = (p : Graph) → T (sound? p) ↔ Sound p
 
