@@ -3,5 +3,6 @@ pub mod Runs
 pub mod Rules
 pub mod Holds
 pub mod Checker
+pub mod Greatest
 pub mod Refine
 pub mod Theorems
