@@ -4,15 +4,16 @@ use mathlib.Core.List.{List, [], _∷_}
 use mathlib.Core.Bool.{Bool, false}
 use mathlib.Core.Logic.{inl, inr}
 use Prim.Native.Nat.{ℕ, zero, suc, _+_, _≤_, _<_}
-use native.Mathlib.Nat.{not-suc-le-zero, zero-add, add-assoc}
+use native.Mathlib.Nat.{zero-add, add-assoc}
 use native.Mathlib.Omega.{arith}
 use lib.ListN.{length, getD}
 use lib.Dec.{T, leb→le, le→leb}
-use Rattle.tctl.specs.Graph.{Graph, Stage, Open, size, moveAt}
+use Rattle.tctl.specs.Graph.{Graph, Stage, Move, Open, size, moveAt}
 use Rattle.tctl.specs.Runs.{Run, stageOn, timeOn, Sound}
 use Rattle.tctl.specs.Checker.{Entry, none, sum, shortest, longest, at, endless, any-move, _and_, non}
 use Rattle.tctl.specs.Checker.{some?, most?, least?}
 use Rattle.tctl.proofs.Basics.{and-i, non-i}
+use Rattle.tctl.proofs.Sums.{sum-mono}
 use Rattle.tctl.proofs.Reach.{Reach, widen}
 use Rattle.tctl.proofs.Tally.{Shows, Closed}
 use Rattle.tctl.proofs.Runs.{rest, next}
@@ -64,9 +65,7 @@ least-i c none t = t
 least-i c (sum a) t = le→leb c a t
 
 pub time-mono : (p : Graph) (j i : ℕ) (w : ℕ → ℕ) → j ≤ i → timeOn p j w ≤ timeOn p i w
-time-mono p zero i w l = omega arith
-time-mono p (suc j) zero w l = absurd (not-suc-le-zero l)
-time-mono p (suc j) (suc i) w l = let h = time-mono p j i (next w) (omega arith) in omega arith
+time-mono = sum-mono (λ (m : Move). m .minutes)
 
 -- A walk that goes on from where a run is after i moves.
 pub join : (p : Graph) (P G : ℕ → Bool) (k i s : ℕ) (r : Run p s) (Q : ℕ → Type 0)

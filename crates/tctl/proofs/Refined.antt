@@ -1,38 +1,27 @@
 -- A refinement keeps the rules.
-use mathlib.Core.Path.{_≡_, refl, sym, _∙_, ap, subst, fun-ext}
+use mathlib.Core.Path.{_≡_, refl, sym, _∙_, ap, subst}
 use mathlib.Core.List.{List, [], _∷_}
 use mathlib.Core.Bool.{false}
 use mathlib.Core.Logic.{inl, inr, ⊎-elim, _↔_}
 use Prim.Native.Nat.{ℕ, zero, suc, _+_, _-_, _/_, _%_, _^_, _≤_, _<_}
-use native.Mathlib.Nat.{not-suc-le-zero, add-zero, zero-add, add-suc, suc-add}
+use native.Mathlib.Nat.{not-suc-le-zero, add-zero, add-suc, suc-add}
 use native.Mathlib.Omega.{arith}
 use lib.ListN.{length, getD, length-append, List·getD-append}
 use lib.Dec.{T, eqb}
 use Rattle.std.proofs.shelf.Tests.{cases-eq, cases-lt}
-use Rattle.tctl.specs.Graph.{Graph, Stage, Open, size, count, stageAt, moveAt}
+use Rattle.tctl.specs.Graph.{Graph, Stage, Move, Open, size, count, stageAt, moveAt}
 use Rattle.tctl.specs.Runs.{Run, stageOn, timeOn, Ends, Sound}
 use Rattle.tctl.specs.Rules.{Rule, one, letter, not, both, either, some-run, each-run, Bound}
 use Rattle.tctl.specs.Holds.{Meets, Until, Holds}
 use Rattle.tctl.specs.Refine.{Refines, Made, span}
 use Rattle.tctl.specs.Theorems.{Refinement-keeps, Making-keeps}
+use Rattle.tctl.proofs.Sums.{sum-more, sum-join, sum-same}
 use Rattle.tctl.proofs.Runs.{next, drop-run}
 
--- Sums of minutes
+abbrev minutesOf : Move → ℕ
+minutesOf m = m .minutes
 
-time-more : (p : Graph) (i : ℕ) (w : ℕ → ℕ) → timeOn p (suc i) w ≡ timeOn p i w + moveAt p (w i) .minutes
-time-more p zero w = omega arith
-time-more p (suc i) w = let h = time-more p i (next w) in omega arith
-
-time-join : (p : Graph) (a b : ℕ) (w : ℕ → ℕ) → timeOn p (a + b) w ≡ timeOn p a w + timeOn p b (λ j. w (a + j))
-time-join p zero b w =
-    subst (λ x. timeOn p x w ≡ 0 + timeOn p b (λ j. w (0 + j))) (sym (zero-add b))
-    (subst (λ (u : ℕ → ℕ). timeOn p b w ≡ 0 + timeOn p b u) (fun-ext (λ j. ap w (sym (zero-add j)))) (omega arith))
-time-join p (suc a) b w =
-    subst (λ x. timeOn p x w ≡ timeOn p (suc a) w + timeOn p b (λ j. w (suc a + j))) (sym (suc-add a b))
-    (subst (λ (u : ℕ → ℕ). timeOn p (suc (a + b)) w ≡ timeOn p (suc a) w + timeOn p b u)
-    (fun-ext (λ j. ap w (sym (suc-add a j))))
-    (let h = time-join p a b (next w) in omega arith))
-
+-- The chain of a move takes as long as the way that makes it.
 time-list : (q : Graph) (xs : List ℕ) (v : ℕ → ℕ) → ((k : ℕ) → k < length xs → v k ≡ getD xs k 0)
     → timeOn q (length xs) v ≡ span q xs
 time-list q [] v h = refl
@@ -100,10 +89,10 @@ module _ (p q : Graph) (ok : Ends p) (R : Made p q) where
     same-time zero = refl
     same-time (suc i) =
         let h = same-time i in
-        let a = time-join q (pos w i) (L (w i)) v in
+        let a = sum-join minutesOf q (pos w i) (L (w i)) v in
         let b = time-list q (R .chains .chain (w i)) (λ j. v (pos w i + j)) (follows i) in
         let d = R .chains .minutes (w i) (real i) in
-        let e = time-more p i w in
+        let e = sum-more minutesOf p i w in
         e′ h a b d e
       where
         e′ : timeOn q (pos w i) v ≡ timeOn p i w
@@ -416,13 +405,6 @@ refinement-keeps p q ok R = making-keeps p q ok (refines-made p q R)
 
 -- A refinement is sound exactly if what it refines is, where its extra stages have a move out.
 
-time-same : (q : Graph) (n : ℕ) (u v : ℕ → ℕ) → ((t : ℕ) → t < n → u t ≡ v t) → timeOn q n u ≡ timeOn q n v
-time-same q zero u v h = refl
-time-same q (suc n) u v h =
-    let a : moveAt q (u 0) .minutes ≡ moveAt q (v 0) .minutes = ap (λ m. moveAt q m .minutes) (h 0 (omega arith)) in
-    let b = time-same q n (next u) (next v) (λ t l. h (suc t) (omega arith)) in
-    omega arith
-
 module _ (p q : Graph) (ok : Ends p) (R : Refines p q) where
   abbrev M : Made p q
   M = refines-made p q R
@@ -558,9 +540,9 @@ module _ (p q : Graph) (ok : Ends p) (R : Refines p q) where
             let h = up-old (stageOn q (r .way) j) there (drop-run q s r j) i
             (ap (stageOn q (r .way)) (let z : j + suc i ≡ suc i + j = omega arith in z)
             ∙ stages-same j (omega arith)) in
-            let a = time-join q j (suc i) (r .way) in
-            let b = time-join q (suc i) j (r .way) in
-            let d = time-same q j (λ t. r .way (suc i + t)) (r .way)
+            let a = sum-join minutesOf q j (suc i) (r .way) in
+            let b = sum-join minutesOf q (suc i) j (r .way) in
+            let d = sum-same minutesOf q j (λ t. r .way (suc i + t)) (r .way)
             (λ t l. one-move t l (stages-same t (omega arith))) in
             let f : timeOn q (j + suc i) (r .way) ≡ timeOn q (suc i + j) (r .way) =
             ap (λ x. timeOn q x (r .way)) (let z : j + suc i ≡ suc i + j = omega arith in z) in

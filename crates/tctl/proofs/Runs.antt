@@ -1,13 +1,14 @@
 -- Runs and walks.
-use mathlib.Core.Path.{_≡_, refl, sym, _∙_, ap, subst}
+use mathlib.Core.Path.{_≡_, sym, _∙_, ap, subst}
 use mathlib.Core.Bool.{Bool}
 use mathlib.Core.Logic.{inl, inr}
 use Prim.Native.Nat.{ℕ, zero, suc, _+_, _<_}
 use native.Mathlib.Nat.{not-suc-le-zero, add-zero, add-suc}
 use native.Mathlib.Omega.{arith}
 use lib.Dec.{T}
-use Rattle.tctl.specs.Graph.{Graph, size, count, moveAt}
+use Rattle.tctl.specs.Graph.{Graph, Move, size, count, moveAt}
 use Rattle.tctl.specs.Runs.{Run, stageOn, timeOn, Sound}
+use Rattle.tctl.proofs.Sums.{sum-none}
 use Rattle.tctl.proofs.Reach.{Reach}
 
 abbrev pub next : (ℕ → ℕ) → ℕ → ℕ
@@ -129,5 +130,4 @@ drop-run p s r i =
     }
 
 pub no-time : (p : Graph) (k : ℕ) (w : ℕ → ℕ) → ((j : ℕ) → moveAt p (w j) .minutes ≡ 0) → timeOn p k w ≡ 0
-no-time p zero w h = refl
-no-time p (suc k) w h = let a = no-time p k (next w) (λ j. h (suc j)) in let b = h 0 in omega arith
+no-time = sum-none (λ (m : Move). m .minutes)

@@ -1,12 +1,7 @@
 // The theory of timed graphs: runs, rules, when a rule holds, a checker that computes, and refinement.
 // Pure: each function states a theorem and its proof is the function's only content. Rests on nothing.
-ghost use Rattle.tctl.specs.Theorems.{
-  Checker-right,
-  Refinement-keeps,
-  Test-right,
-  Cap-cuts,
-  Endless-is-greatest,
-};
+ghost use Rattle.tctl.specs.Theorems.{Checker-right, Refinement-keeps, Test-right, Cap-cuts};
+ghost use Rattle.tctl.specs.Theorems.{Endless-is-greatest};
 
 // The checker finds exactly the stages at which a rule holds.
 pub fn checker_right() -> u8
