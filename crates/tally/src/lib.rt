@@ -6,7 +6,7 @@ pub mod tables;
 
 ghost use mathlib.Core.Path.{_≡_};
 ghost use mathlib.Core.Bool.{true};
-ghost use Prim.Native.Nat.{ℕ, _+_, min, _≤_, _<_};
+ghost use Prim.Native.Nat.{_+_, min, _<_};
 ghost use Rattle.tally.specs.Algebras.{Algebra, Laws, mostSum, reachAlgebra, shortestAlgebra, longestAlgebra};
 
 // What sums up walks. Its values are those of the type.
