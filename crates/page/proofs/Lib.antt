@@ -1,1 +1,4 @@
 pub mod Decimals
+pub mod Rising
+pub mod Cuts
+pub mod Readings

@@ -1,2 +1,5 @@
 pub mod Reading
 pub mod Numbers
+pub mod Letters
+pub mod Splits
+pub mod Lines

@@ -1,2 +1,5 @@
 // The console page: a function from the bytes of a page to the bytes of its answers.
+pub mod line;
+pub mod marks;
 pub mod number;
+pub mod split;
