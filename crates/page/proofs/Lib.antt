@@ -2,3 +2,4 @@ pub mod Decimals
 pub mod Rising
 pub mod Cuts
 pub mod Readings
+pub mod Loads

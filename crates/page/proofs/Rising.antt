@@ -152,3 +152,11 @@ pub no-rise : (text : List ℕ) (i next marks : ℕ) → i < length text → Sof
 no-rise text i next marks l s bad r =
     let h = subst (Rising next 113) (drop-more text i 0 l) (s .to r) in
     bad (h .0) (omega (arith, h .1))
+
+rising-low : (b e : ℕ) (xs : List ℕ) → Rising b e xs → (i : ℕ) → i < length xs → b ≤ getD xs i 0
+rising-low b e [] r i l = absurd (omega arith)
+rising-low b e (x ∷ xs) r zero l = r .0
+rising-low b e (x ∷ xs) r (suc i) l = omega (arith, r .0, rising-low (x + 1) e xs (r .2) i (omega arith))
+
+pub letter-low : (marks i : ℕ) → i < length (letters marks) → 97 ≤ getD (letters marks) i 0
+letter-low marks i l = rising-low 97 113 (letters marks) (letters-rising 16 97 marks 113 refl) i l

@@ -3,3 +3,4 @@ pub mod Numbers
 pub mod Letters
 pub mod Splits
 pub mod Lines
+pub mod Pages

@@ -8,6 +8,7 @@ use Rattle.page.specs.declared.line.PageLine.{PageLine}
 use Rattle.page.specs.declared.line.PageLine.the-variants.{Stage, Move, Rule}
 use Rattle.page.specs.Numbers.{Small}
 use Rattle.page.specs.Letters.{letters, Sixteen}
+use Rattle.page.specs.Splits.{Lacks}
 
 pub data Line : Type 0 where
   stage : ℕ → Line
@@ -25,10 +26,11 @@ write (stage marks) = codes "stage=" ++ letters marks
 write (move leaves minutes enters) = codes "move=" ++ writeMove (leaves, minutes, enters)
 write (rule text) = codes "rule=" ++ text
 
+-- The text of a rule may have any bytes but 10.
 abbrev pub Fits : Line → Type 0
 Fits (stage marks) = Sixteen marks
 Fits (move leaves minutes enters) = FitsMove (leaves, minutes, enters)
-Fits (rule text) = Unit {0}
+Fits (rule text) = Lacks 10 text
 
 -- The line that a value of the code stands for.
 abbrev pub lineOf : PageLine → Line

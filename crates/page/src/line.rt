@@ -1,6 +1,7 @@
 // The lines of a page: what each kind says, and how it is written.
 ghost use Rattle.std.specs.Options.{mapped};
 ghost use Rattle.page.specs.Reading.{Reads, One-reading};
+ghost use Rattle.page.specs.Splits.{Lacks};
 ghost use Rattle.page.specs.Lines.{write, Fits, lineOf, writeMove, FitsMove};
 use crate::marks::read_marks;
 use crate::number::read_number;
@@ -39,7 +40,8 @@ fn read_move(text: &[u8]) -> Option<(u32, u32, u32)>
 }
 
 // Reads a line, given without the byte 10 that ends it.
-pub fn read_line(line: &[u8]) -> Option<PageLine<'_>>
+pub(crate) fn read_line(line: &[u8]) -> Option<PageLine<'_>>
+    requires { ⌜ Lacks 10 (now line) ⌝ }
     ensures { λ r. ⌜ Reads write Fits (now (line .entry)) (mapped lineOf r) ⌝ }
 {
     if let Some(text) = line.strip_prefix(b"stage=") {

@@ -3,7 +3,7 @@ ghost use Rattle.page.specs.Reading.{Reads, One-reading};
 ghost use Rattle.page.specs.Letters.{letters, Sixteen};
 
 // Reads letters in strictly rising order as the set of their marks: mark a is bit 0.
-pub fn read_marks(text: &[u8]) -> Option<u16>
+pub(crate) fn read_marks(text: &[u8]) -> Option<u16>
     ensures { λ r. ⌜ Reads letters Sixteen (now (text .entry)) r ⌝ }
 {
     let mut marks = 0;

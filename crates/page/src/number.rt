@@ -9,10 +9,10 @@ ghost use Rattle.page.specs.Numbers.{Small, One-way-to-write};
 use std::alloc::AllocError;
 
 // The most digits of a number on a page.
-pub const MOST_DIGITS: usize = 5;
+const MOST_DIGITS: usize = 5;
 
 // Reads a number of 1 to 5 digits that has no needless leading 0.
-pub fn read_number(text: &[u8]) -> Option<u32>
+pub(crate) fn read_number(text: &[u8]) -> Option<u32>
     ensures { λ r. ⌜ Reads decimal Small (now (text .entry)) r ⌝ }
 {
     if text.len() == 0 || text.len() > MOST_DIGITS {
@@ -32,7 +32,7 @@ pub fn read_number(text: &[u8]) -> Option<u32>
 }
 
 // Appends a number to `out`.
-pub fn write_number(out: &mut Vec<u8>, number: usize) -> Result<(), AllocError>
+pub(crate) fn write_number(out: &mut Vec<u8>, number: usize) -> Result<(), AllocError>
     ensures { λ r. ⌜ made r (λ _. vec-items (now (out .exit)) ≡ vec-items (now (out .entry)) ++ decimal number) ⌝ }
 {
     if number >= 10 {
