@@ -159,7 +159,7 @@ pigeons n (suc c) A f l b h =
   where
     go : ((j : ℕ) × (j < suc c) × T (eqb (f (suc j)) (f 0))) ⊎ ((j : ℕ) → j < suc c → T (eqb (f (suc j)) (f 0)) → ⊥)
         → (((i : ℕ) → i < suc c → f (suc i) ≡ f 0 → ⊥)
-            → (i : ℕ) × (k : ℕ) × (f (suc i) ≡ f (suc (i + suc k))) × (i ≤ c))
+        → (i : ℕ) × (k : ℕ) × (f (suc i) ≡ f (suc (i + suc k))) × (i ≤ c))
         → (i : ℕ) × (k : ℕ) × (f i ≡ f (i + suc k)) × (i ≤ suc c)
     go (inl o) again =
         (0, o .0, sym (eqb→eq (f (suc (o .0))) (f 0) (o .2)) ∙ ap f (sym (zero-add (suc (o .0)))), omega arith)
