@@ -1,2 +1,3 @@
 pub mod Cycles
 pub mod Finds
+pub mod Exclusive

@@ -13,14 +13,6 @@ pub enum CheckFault {
     ShortMemory,
 }
 
-// What a refusal lies in.
-#[derive(Clone, Copy, PartialEq, Eq, Debug)]
-pub enum Part {
-    Text,
-    Program,
-    Memory,
-}
-
 impl CheckFault {
     // The number of the refusal, the part that it lies in, and the stage that it names, or 0.
     pub fn plain(self) -> (u8, u8, usize)

@@ -4,3 +4,4 @@ pub mod faults;
 pub mod rows;
 pub mod run;
 pub mod tests;
+pub mod theorems;
