@@ -41,6 +41,7 @@ drawn-push {d} {e} m l ls h p n same =
     go false t =
         let small : lineNumber l ≤ largestNumber = omega (arith, ltb-false largestNumber (lineNumber m) t) in
         when-map (d .large) (large-push ls l) (λ s. small-push ls l s small) (h .noted)
+
     all : Small (ls ++ (l ∷ [])) → length ls < 32 → take (length (ls ++ (l ∷ []))) (e .lines) ≡ ls ++ (l ∷ [])
     all s f =
         let k : d .count ≡ length ls = omega (arith, h .counted) in

@@ -117,7 +117,7 @@ term-goes-on {next = next} {d3 = d3} i j g s h p x y =
       parts = snoc-item (g .parts) (h .part);
       splits = g .splits ∙ ap (spell-items (g .parts)) (s .splits ∙ ap (λ us. Amp ∷ us) (h .splits)) ∙ sym (spell-snoc-item (g .parts) (h .part) (signs next));
       adds =
-        λ f ls w.
+          λ f ls w.
           let u = g .adds f ls w in
           subst (λ z. Drawn d3 (put z ls)) (sym (tree-snoc-item (g .parts) (h .part) f))
           (push-two line.And line.And i j _ _ u (h .adds _ u) (omega (arith, put-longer (tree-item (h .part)) (put (tree-items (g .parts) f) ls))) p x y (λ a b. refl) (λ a b z. refl));
@@ -161,7 +161,7 @@ rule-goes-on {next = next} {d3 = d3} i j g s h p x y =
       parts = snoc-term (g .parts) (h .part);
       splits = g .splits ∙ ap (spell-terms (g .parts)) (s .splits ∙ ap (λ us. Bar ∷ us) (h .splits)) ∙ sym (spell-snoc-term (g .parts) (h .part) (signs next));
       adds =
-        λ f ls w.
+          λ f ls w.
           let u = g .adds f ls w in
           subst (λ z. Drawn d3 (put z ls)) (sym (tree-snoc-term (g .parts) (h .part) f))
           (push-two line.Or line.Or i j _ _ u (h .adds _ u) (omega (arith, put-longer (tree-term (h .part)) (put (tree-terms (g .parts) f) ls))) p x y (λ a b. refl) (λ a b z. refl));
@@ -232,7 +232,7 @@ module _ {text r1 : List ℕ} (o : Begins text OpenSquare r1) where
               part = body (h .part) (m .limit) (k .part);
               splits = o .splits ∙ ap (λ us. OpenSquare ∷ us) (h .splits ∙ ap (spell-formula (h .part)) (m .splits ∙ ap (spell-limit (m .limit)) (k .splits ∙ ap (spell-formula (k .part)) (z .splits))));
               adds =
-                λ ls w.
+                  λ ls w.
                   let u = h .adds ls w in
                   let f = tree-formula (h .part) in
                   let g = tree-formula (k .part) in

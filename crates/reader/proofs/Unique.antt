@@ -45,6 +45,7 @@ square-free ss = (λ e. let z : _≡_ {A = ℕ} 0 1 = cc in omega arith, λ e. l
 
 mutual
   unfolding spell-formula
+
   pub formula-same : (f g : Formula) (ss us : List Sign) → spell-formula f ss ≡ spell-formula g us → No-joint ss → No-joint us → Same f g ss us
   formula-same (terms t ts) (terms v vs) ss us e p q =
       let a = term-same t v (spell-terms ts ss) (spell-terms vs us) e (terms-free ts ss (p .0)) (terms-free vs us (q .0)) in

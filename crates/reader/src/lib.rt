@@ -2,9 +2,11 @@
 // lines of a rule (`rules`).
 ghost use mathlib.Core.Path.{_≡_};
 ghost use Rattle.reader.specs.Answer.{faultNumber, Answers};
+
 mod draft;
 mod noting;
 mod parts;
+
 use crate::draft::Draft;
 use rules::rule::MOST_LINES;
 use rules::rule::Rule;

@@ -69,7 +69,12 @@ fn read_until<'a>(text: &'a [u8], quantifier: Quantifier, draft: &mut Draft) -> 
     let rest = read_rule(rest, draft)?;
     let right = draft.last();
     let rest = after_sign(rest, Sign::CloseSquare)?;
-    draft.push(Line::Until { quantifier, left, bound, right });
+    draft.push(Line::Until {
+        quantifier,
+        left,
+        bound,
+        right,
+    });
     Some(rest)
 }
 
