@@ -14,7 +14,7 @@ use Rattle.program.specs.Meaning.{Prog, Limits, noMove}
 use Rattle.tally.specs.Rounds.{Within}
 use Rattle.tctl.proofs.Basics.{find}
 use Rattle.check.specs.declared.faults.CheckFault.{CheckFault}
-use Rattle.check.specs.declared.faults.CheckFault.the-variants.{NoStage, DeadEnd, StillCycle, ShortMemory}
+use Rattle.check.specs.declared.faults.CheckFault.the-variants.{Text, NoStage, DeadEnd, StillCycle, ShortMemory}
 use Rattle.check.specs.Faults.{faultNumber}
 use Rattle.check.specs.Outcomes.{Onward, All-onward, Cycle, Checkable, Memory, Enough, Accepted, Refused}
 use Rattle.check.specs.Found.{enough?, ahead, steps}
@@ -30,24 +30,30 @@ module _ (p : Prog) (was : Memory) where
   none-some s e l = absurd (not-suc-le-zero (subst (λ x. s < x) e l))
 
   one-number : (e d : CheckFault) → Refused p was e → Refused p was d → faultNumber e ≡ faultNumber d
+  one-number (Text e) d a b = absurd a
+  one-number NoStage (Text e) a b = absurd b
   one-number NoStage NoStage a b = refl
   one-number NoStage (DeadEnd s) a b = none-some s a (b .stage)
   one-number NoStage (StillCycle s) a b = none-some s a (b .1)
   one-number NoStage ShortMemory a b = none-some 0 a (b .0 .some)
+  one-number (DeadEnd s) (Text e) a b = absurd b
   one-number (DeadEnd s) NoStage a b = none-some s b (a .stage)
   one-number (DeadEnd s) (DeadEnd t) a b = refl
   one-number (DeadEnd s) (StillCycle t) a b = absurd (a .ends (b .0 s (a .stage)))
   one-number (DeadEnd s) ShortMemory a b = absurd (a .ends (b .0 .onward s (a .stage)))
+  one-number (StillCycle s) (Text e) a b = absurd b
   one-number (StillCycle s) NoStage a b = none-some s b (a .1)
   one-number (StillCycle s) (DeadEnd t) a b = absurd (b .ends (a .0 t (b .stage)))
   one-number (StillCycle s) (StillCycle t) a b = refl
   one-number (StillCycle s) ShortMemory a b = absurd (b .0 .moving s (a .2))
+  one-number ShortMemory (Text e) a b = absurd b
   one-number ShortMemory NoStage a b = none-some 0 b (a .0 .some)
   one-number ShortMemory (DeadEnd t) a b = absurd (b .ends (a .0 .onward t (b .stage)))
   one-number ShortMemory (StillCycle t) a b = absurd (a .0 .moving t (b .2))
   one-number ShortMemory ShortMemory a b = refl
 
   not-made : (e : CheckFault) → Refused p was e → Accepted p was → ⊥
+  not-made (Text e) a b = a
   not-made NoStage a b = none-some 0 a (b .0 .some)
   not-made (DeadEnd s) a b = a .ends (b .0 .onward s (a .stage))
   not-made (StillCycle s) a b = b .0 .moving s (a .2)

@@ -16,7 +16,7 @@ use Rattle.tally.specs.Walks.{Has}
 use Rattle.sheet.specs.Told.{Spent}
 use Rattle.sheet.specs.Sheets.{Names}
 use Rattle.check.specs.declared.faults.CheckFault.{CheckFault}
-use Rattle.check.specs.declared.faults.CheckFault.the-variants.{NoStage, DeadEnd, StillCycle, ShortMemory}
+use Rattle.check.specs.declared.faults.CheckFault.the-variants.{Text, NoStage, DeadEnd, StillCycle, ShortMemory}
 
 -- Some move leaves s.
 abbrev pub Onward : Prog → ℕ → Type 0
@@ -64,8 +64,9 @@ Enough n m =
 abbrev pub Accepted : Prog → Memory → Type 0
 Accepted p was = Checkable p × Enough (length (p .stages)) was
 
--- A check is refused: the first fault that fits.
+-- A check of lines is refused: the first fault that fits.
 abbrev pub Refused : Prog → Memory → CheckFault → Type 0
+Refused p was (Text e) = ⊥
 Refused p was NoStage = length (p .stages) ≡ 0
 Refused p was (DeadEnd s) = Dead-end p s
 Refused p was (StillCycle s) = All-onward p × (s < length (p .stages)) × Cycle p s
