@@ -1,4 +1,4 @@
--- No two cases of an outcome fit at once, and some case fits.
+-- No two cases of a check of lines fit at once, and some case fits.
 use mathlib.Core.Path.{_≡_, refl, sym, subst}
 use mathlib.Core.List.{List, [], _∷_}
 use mathlib.Core.Bool.{Bool, true, false}
@@ -18,7 +18,7 @@ use Rattle.check.specs.declared.faults.CheckFault.the-variants.{Text, NoStage,
 use Rattle.check.specs.Faults.{faultNumber}
 use Rattle.check.specs.Outcomes.{Onward, All-onward, Cycle, Checkable, Memory, Enough, Accepted, Refused}
 use Rattle.check.specs.Found.{enough?, ahead, steps}
-use Rattle.check.specs.Theorems.{Cases-exclusive, Cases-complete}
+use Rattle.check.specs.Theorems.{Outcomes-complete}
 use Rattle.check.proofs.Finds.{enough-if, short-if, rests, cycle-if, no-cycle}
 
 module _ (p : Prog) (was : Memory) where
@@ -29,7 +29,7 @@ module _ (p : Prog) (was : Memory) where
   none-some : {A : Type 0} (s : ℕ) → n ≡ 0 → s < n → A
   none-some s e l = absurd (not-suc-le-zero (subst (λ x. s < x) e l))
 
-  one-number : (e d : CheckFault) → Refused p was e → Refused p was d → faultNumber e ≡ faultNumber d
+  pub one-number : (e d : CheckFault) → Refused p was e → Refused p was d → faultNumber e ≡ faultNumber d
   one-number (Text e) d a b = absurd a
   one-number NoStage (Text e) a b = absurd b
   one-number NoStage NoStage a b = refl
@@ -52,15 +52,12 @@ module _ (p : Prog) (was : Memory) where
   one-number ShortMemory (StillCycle t) a b = absurd (a .0 .moving t (b .2))
   one-number ShortMemory ShortMemory a b = refl
 
-  not-made : (e : CheckFault) → Refused p was e → Accepted p was → ⊥
+  pub not-made : (e : CheckFault) → Refused p was e → Accepted p was → ⊥
   not-made (Text e) a b = a
   not-made NoStage a b = none-some 0 a (b .0 .some)
   not-made (DeadEnd s) a b = a .ends (b .0 .onward s (a .stage))
   not-made (StillCycle s) a b = b .0 .moving s (a .2)
   not-made ShortMemory a b = a .1 (b .1)
-
-pub cases-exclusive : Cases-exclusive
-cases-exclusive p was e h = ((λ d k. one-number p was e d h k), not-made p was e h)
 
 is-true : (b : Bool) → T b → b ≡ true
 is-true true t = refl
@@ -137,5 +134,5 @@ module _ (p : Prog) (limits : Limits p) (was : Memory) where
   answer : Answer
   answer = ⊎-elim by-dead-end (λ none. inr (NoStage, omega (arith, none))) (cases-lt 0 (length (p .stages)))
 
-pub cases-complete : Cases-complete
-cases-complete p limits was = answer p limits was
+pub outcomes-complete : Outcomes-complete
+outcomes-complete p limits was = answer p limits was

@@ -13,7 +13,7 @@ use Rattle.reader.specs.Answer.{longest, Reading}
 use Rattle.reader.specs.Answer as reader
 use Rattle.check.specs.declared.faults.CheckFault.{CheckFault}
 use Rattle.check.specs.declared.faults.CheckFault.the-variants.{Text, NoStage, DeadEnd, StillCycle, ShortMemory}
-use Rattle.check.specs.Outcomes.{Memory, Accepted, Refused, Outcome}
+use Rattle.check.specs.Outcomes.{Memory, Refused, Outcome}
 
 -- The text is read as a rule, which is within the limits.
 pub record Reads (text : List ℕ) (rule : Rule) : Type 0 where

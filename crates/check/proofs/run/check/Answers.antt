@@ -27,5 +27,6 @@ returns-in-Ok g c =
     of-lines p (c .args .text .now) was after r (
       read .rule,
       record { short = read .short; reading = read .reading; small = read .small; few = read .few },
-      subst (λ (ls : List Line). Outcome p ls was after r) (c .lines .ensures .value ∙ read .lines) (c .check-lines-of .ensures),
+      subst (λ (ls : List Line). Outcome p ls was after r) (c .lines .ensures .value ∙ read .lines)
+          (c .check-lines-of .ensures),
     )
