@@ -1,0 +1,4 @@
+pub mod Allowed
+pub mod Cards
+pub mod Areas
+pub mod Records
