@@ -2,3 +2,4 @@ pub mod Allowed
 pub mod Cards
 pub mod Areas
 pub mod Records
+pub mod Trays
