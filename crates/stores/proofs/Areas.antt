@@ -71,7 +71,7 @@ module _ {X : Type 0} (l : Layout X) (law : Lawful l) where
       → put (l .write y ++ rest) (l .width * suc i) cs ≡ l .write y ++ put rest (l .width * i) cs
   put-next y rest i cs =
       let e : l .width * suc i ≡ length (l .write y) + l .width * i =
-          mul-suc (l .width) i ∙ add-comm _ _ ∙ ap (λ k. k + l .width * i) (sym (law .wide y)) in
+      mul-suc (l .width) i ∙ add-comm _ _ ∙ ap (λ k. k + l .width * i) (sym (law .wide y)) in
       ap (λ k. put (l .write y ++ rest) k cs) e ∙ put-append (l .write y) rest (l .width * i) cs
 
   pub put-record : (xs : List X) (rest : List ℕ) (i : ℕ) (x : X) → i < length xs
@@ -99,9 +99,9 @@ module _ {X : Type 0} (l : Layout X) (law : Lawful l) where
   pub written : (n k : ℕ) (bs : List ℕ) (xs : List X) → length xs ≡ n → bs ≡ bytes l xs ++ replicate k 0 → Written l n bs xs
   written n k bs xs e h =
       let zeros : length bs - length (bytes l xs) ≡ k =
-          omega (arith, ap length h ∙ length-append (bytes l xs) (replicate k 0), length-replicate {A = ℕ} k 0) in
+      omega (arith, ap length h ∙ length-append (bytes l xs) (replicate k 0), length-replicate {A = ℕ} k 0) in
       let r : inUse l n bs ≡ xs =
-          ap (λ m. inUse l m bs) (sym e) ∙ ap (inUse l (length xs)) h ∙ inUse-bytes xs (replicate k 0) in
+      ap (λ m. inUse l m bs) (sym e) ∙ ap (inUse l (length xs)) h ∙ inUse-bytes xs (replicate k 0) in
       record {
         reads = r;
         holds = h ∙ ap (λ m. bytes l xs ++ replicate m 0) (sym zeros) ∙ ap (λ ys. filled (length bs) (bytes l ys)) (sym r);
@@ -115,10 +115,10 @@ module _ {X : Type 0} (l : Layout X) (law : Lawful l) where
         let xs = inUse l n bs in
         let k = length bs - length (bytes l xs) in
         let put-is : put bs (l .width * n) (l .write x) ≡ bytes l (xs ++ (x ∷ [])) ++ replicate (k - l .width) 0 =
-            ap (λ r. put r (l .width * n) (l .write x)) h
-            ∙ ap (λ m. put (bytes l xs ++ replicate k 0) (l .width * m) (l .write x)) (sym (length-inUse l n bs))
-            ∙ put-behind xs (replicate k 0) x
-            ∙ ap (λ r. bytes l (xs ++ (x ∷ [])) ++ r) (drop-replicate (l .width) k 0) in
+        ap (λ r. put r (l .width * n) (l .write x)) h
+        ∙ ap (λ m. put (bytes l xs ++ replicate k 0) (l .width * m) (l .write x)) (sym (length-inUse l n bs))
+        ∙ put-behind xs (replicate k 0) x
+        ∙ ap (λ r. bytes l (xs ++ (x ∷ [])) ++ r) (drop-replicate (l .width) k 0) in
         written (n + 1) (k - l .width) _ _ (length-push xs x ∙ ap (λ m. m + 1) (length-inUse l n bs)) (e ∙ put-is)
 
     pub record-replaced : (i : ℕ) (new : List ℕ) → i < n → new ≡ put bs (l .width * i) (l .write x)
@@ -128,5 +128,5 @@ module _ {X : Type 0} (l : Layout X) (law : Lawful l) where
         let k = length bs - length (bytes l xs) in
         let inside : i < length xs = omega (arith, length-inUse l n bs) in
         let put-is : put bs (l .width * i) (l .write x) ≡ bytes l (set xs i x) ++ replicate k 0 =
-            ap (λ r. put r (l .width * i) (l .write x)) h ∙ put-record xs (replicate k 0) i x inside in
+        ap (λ r. put r (l .width * i) (l .write x)) h ∙ put-record xs (replicate k 0) i x inside in
         written n k _ _ (length-set xs i x ∙ length-inUse l n bs) (e ∙ put-is)

@@ -3,3 +3,4 @@ pub mod Cards
 pub mod Areas
 pub mod Records
 pub mod Trays
+pub mod InTray

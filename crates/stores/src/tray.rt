@@ -1,7 +1,7 @@
 // A tray: a store whose records lie in two byte areas that its user lends, one for stages and one for moves.
 // The areas hold the bytes of the records in use and zeros behind them, between any two calls.
-pub mod edits;
 mod areas;
+pub mod edits;
 mod records;
 
 ghost use Prim.Native.Nat.{_≤_};

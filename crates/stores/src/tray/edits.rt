@@ -1,10 +1,12 @@
 // How a tray is made, read and edited.
 ghost use mathlib.Core.Path.{_≡_};
-ghost use Prim.Native.Nat.{_<_, _≤_};
-ghost use denote.Ref.{now};
+ghost use lib.ListN.{length, replicate};
+ghost use denote.Ref.{now, name};
 ghost use Rattle.std.specs.Of.Vec.{vec-items, vec-len};
 ghost use Rattle.program.specs.Meaning.{empty};
-ghost use Rattle.stores.specs.Trays.{trayProg, trayCaps};
+ghost use Rattle.program.specs.Edits.{Does, openStep, markStep, layStep};
+ghost use Rattle.stores.specs.Trays.{stageImage, moveImage};
+ghost use Rattle.stores.specs.InTray.{trayMeaning, trayRoom, SameAreas};
 use crate::allowed::allowed_move;
 use crate::allowed::open_stage;
 use crate::tray::Tray;
@@ -29,7 +31,13 @@ use program::Store;
 impl<'a> Tray<'a> {
     // A tray with no stage and no move, in areas of any length and content.
     pub fn new(stages: &'a mut Vec<u8>, moves: &'a mut Vec<u8>) -> Tray<'a>
-        ensures holds { λ r. ⌜ trayProg (r .«stage_count») (vec-items (now (r .stages))) (r .«move_count») (vec-items (now (r .moves))) ≡ empty ⌝ }
+        ensures holds { λ r. ⌜ trayMeaning r ≡ empty ⌝ }
+        ensures stage_zeros { λ r. ⌜ vec-items (now (r .stages)) ≡ replicate (vec-len (now (stages .entry))) 0 ⌝ }
+        ensures move_zeros { λ r. ⌜ vec-items (now (r .moves)) ≡ replicate (vec-len (now (moves .entry))) 0 ⌝ }
+        ensures stage_bytes { λ r. ⌜ vec-len (now (r .stages)) ≡ vec-len (now (stages .entry)) ⌝ }
+        ensures move_bytes { λ r. ⌜ vec-len (now (r .moves)) ≡ vec-len (now (moves .entry)) ⌝ }
+        ensures stage_loan { λ r. ⌜ name (r .stages) ≡ name (stages .entry) ⌝ }
+        ensures move_loan { λ r. ⌜ name (r .moves) ≡ name (moves .entry) ⌝ }
     {
         clear(stages);
         clear(moves);
@@ -40,10 +48,24 @@ impl<'a> Tray<'a> {
             move_count: 0,
         }
     }
+
+    // The bytes of the stages' area.
+    pub fn stage_bytes(&self) -> &[u8]
+        ensures { λ r. ⌜ now r ≡ stageImage (vec-len (now (now (self .entry) .stages))) (trayMeaning (now (self .entry))) ⌝ }
+    {
+        self.stages.as_slice()
+    }
+
+    // The bytes of the moves' area.
+    pub fn move_bytes(&self) -> &[u8]
+        ensures { λ r. ⌜ now r ≡ moveImage (vec-len (now (now (self .entry) .moves))) (trayMeaning (now (self .entry))) ⌝ }
+    {
+        self.moves.as_slice()
+    }
 }
 
 pub impl<'a> Program for Tray<'a> as TrayProgram {
-    ghost meaning = { λ t. trayProg (t .«stage_count») (vec-items (now (t .stages))) (t .«move_count») (vec-items (now (t .moves))) };
+    ghost meaning = { trayMeaning };
 
     fn stage_count(&self) -> usize {
         self.stage_count
@@ -71,7 +93,7 @@ pub impl<'a> Program for Tray<'a> as TrayProgram {
 }
 
 pub impl<'a> Store for Tray<'a> as TrayStore {
-    ghost room = { λ t. trayCaps (vec-len (now (t .stages))) (vec-len (now (t .moves))) };
+    ghost room = { trayRoom };
 
     fn stage_capacity(&self) -> usize {
         (self.stages.len() / STAGE_BYTES).min(MOST_STAGES)
@@ -81,7 +103,11 @@ pub impl<'a> Store for Tray<'a> as TrayStore {
         (self.moves.len() / MOVE_BYTES).min(MOST_MOVES)
     }
 
-    fn open(&mut self, marks: u16) -> Result<usize, EditFault> {
+    fn open(&mut self, marks: u16) -> Result<usize, EditFault>
+        ensures does { λ r. ⌜ Does (openStep (trayRoom (now (self .entry))) (trayMeaning (now (self .entry))) marks) r (trayMeaning (now (self .exit))) ⌝ }
+        ensures kept { λ _. ⌜ trayRoom (now (self .exit)) ≡ trayRoom (now (self .entry)) ⌝ }
+        ensures stays { λ _. ⌜ SameAreas (now (self .entry)) (now (self .exit)) ⌝ }
+    {
         let n = self.stage_count;
         if n >= self.stage_capacity() {
             return Err(EditFault::StagesFull);
@@ -95,7 +121,11 @@ pub impl<'a> Store for Tray<'a> as TrayStore {
         Ok(n)
     }
 
-    fn mark(&mut self, stage: usize, marks: u16) -> Result<usize, EditFault> {
+    fn mark(&mut self, stage: usize, marks: u16) -> Result<usize, EditFault>
+        ensures does { λ r. ⌜ Does (markStep (trayMeaning (now (self .entry))) stage marks) r (trayMeaning (now (self .exit))) ⌝ }
+        ensures kept { λ _. ⌜ trayRoom (now (self .exit)) ≡ trayRoom (now (self .entry)) ⌝ }
+        ensures stays { λ _. ⌜ SameAreas (now (self .entry)) (now (self .exit)) ⌝ }
+    {
         let found = open_stage(self, stage)?;
         let record = Stage {
             marks,
@@ -105,7 +135,11 @@ pub impl<'a> Store for Tray<'a> as TrayStore {
         Ok(stage)
     }
 
-    fn lay(&mut self, leaves: usize, minutes: u32, enters: usize) -> Result<usize, EditFault> {
+    fn lay(&mut self, leaves: usize, minutes: u32, enters: usize) -> Result<usize, EditFault>
+        ensures does { λ r. ⌜ Does (layStep (trayRoom (now (self .entry))) (trayMeaning (now (self .entry))) leaves minutes enters) r (trayMeaning (now (self .exit))) ⌝ }
+        ensures kept { λ _. ⌜ trayRoom (now (self .exit)) ≡ trayRoom (now (self .entry)) ⌝ }
+        ensures stays { λ _. ⌜ SameAreas (now (self .entry)) (now (self .exit)) ⌝ }
+    {
         let record = allowed_move(self, leaves, minutes, enters)?;
         let n = self.move_count;
         if n >= self.move_capacity() {

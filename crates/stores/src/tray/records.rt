@@ -48,7 +48,16 @@ fn move_record(laid: Move) -> [u8; MOVE_BYTES]
     let [leaves, leaves_high] = low_high(laid.leaves);
     let [enters, enters_high] = low_high(laid.enters);
     let [minutes, minutes_high] = low_high(laid.minutes);
-    [leaves, leaves_high, enters, enters_high, minutes, minutes_high, 0, 0]
+    [
+        leaves,
+        leaves_high,
+        enters,
+        enters_high,
+        minutes,
+        minutes_high,
+        0,
+        0,
+    ]
 }
 
 // Writes the record of number n.

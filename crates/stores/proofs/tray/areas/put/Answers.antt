@@ -14,11 +14,10 @@ loop-i-again c =
     let l = c .loop-i in
     let bs = c .args .area .now .items in
     let new = c .args .record .now in
-    let within : c .args .at + l .i < length bs = omega (arith, c .args .area .now .ok .0) in
-    (
+    let within : c .args .at + l .i < length bs = omega (arith, c .args .area .now .ok .0) in (
       l .inv .0,
       ap (λ xs. set xs (c .args .at + l .i) (getD new (l .i) 0)) (l .inv .1)
-      ∙ paste-more bs (c .args .at) new (l .i) 0 within (c .loop-i-test .taken),
+          ∙ paste-more bs (c .args .at) new (l .i) 0 within (c .loop-i-test .taken),
     )
 
 pub returns : need.returns

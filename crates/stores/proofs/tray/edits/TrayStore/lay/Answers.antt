@@ -16,7 +16,7 @@ returns-in-Break-record c =
     let tray = c .args .self .now in
     let caps = trayCaps (vec-len (tray .stages .now)) (vec-len (tray .moves .now)) in
     let p = err-from-errBy (c .from-residual .result) (c .from-residual .ensures .1) in
-    rw (p .1, p .2, c .in-Break-record .ensures tt caps) (record { does = record { answers = refl; leaves = refl }; kept = refl })
+    rw (p .1, p .2, c .in-Break-record .ensures tt caps) (record { does = record { answers = refl; leaves = refl }; kept = refl; stays = record { stage-loan = refl; move-loan = refl; stage-bytes = refl; move-bytes = refl } })
 
 pub returns-then-n-move-capacity : need.returns-then-n-move-capacity
 returns-then-n-move-capacity c =
@@ -24,7 +24,7 @@ returns-then-n-move-capacity c =
     let caps = trayCaps (vec-len (tray .stages .now)) (vec-len (tray .moves .now)) in
     let n = length-inUse moveLayout (tray .«move_count») (tray .moves .now .items) in
     let allowed = c .in-Continue-record .ensures tt in
-    record { does = lay-full caps _ _ _ _ _ allowed (omega (arith, n, c .move-capacity .ensures)); kept = refl }
+    record { does = lay-full caps _ _ _ _ _ allowed (omega (arith, n, c .move-capacity .ensures)); kept = refl; stays = record { stage-loan = refl; move-loan = refl; stage-bytes = refl; move-bytes = refl } }
 
 pub ghost-self : need.ghost-self
 ghost-self c =
@@ -44,4 +44,5 @@ returns c =
     record {
       does = lays caps _ _ _ _ _ _ (a .leaves-stage) (a .enters-stage) (a .leaves-open) (a .enters-open) (a .short) n (omega (arith, c .move-capacity .ensures)) (laid .is);
       kept = ap (trayCaps (vec-len (tray .stages .now))) (c .put-move .ensures .len);
+      stays = record { stage-loan = refl; move-loan = refl; stage-bytes = refl; move-bytes = c .put-move .ensures .len };
     }

@@ -33,4 +33,5 @@ returns c =
     record {
       does = marks-one _ _ _ _ (allowed .stage) (allowed .shown) (marked .is);
       kept = ap (λ len. trayCaps len (vec-len (tray .moves .now))) (c .put-stage .ensures .len);
+      stays = record { stage-loan = refl; move-loan = refl; stage-bytes = c .put-stage .ensures .len; move-bytes = refl };
     }

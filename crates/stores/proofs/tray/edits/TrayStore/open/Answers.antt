@@ -17,7 +17,7 @@ returns-then-n-stage-capacity c =
     let tray = c .args .self .now in
     let n = length-inUse stageLayout (tray .«stage_count») (tray .stages .now .items) in
     let caps = trayCaps (vec-len (tray .stages .now)) (vec-len (tray .moves .now)) in
-    record { does = open-full caps _ _ (omega (arith, n, c .stage-capacity .ensures)); kept = refl }
+    record { does = open-full caps _ _ (omega (arith, n, c .stage-capacity .ensures)); kept = refl; stays = record { stage-loan = refl; move-loan = refl; stage-bytes = refl; move-bytes = refl } }
 
 pub ghost-self : need.ghost-self
 ghost-self c =
@@ -35,4 +35,5 @@ returns c =
     record {
       does = opens caps _ _ _ _ n (omega (arith, c .stage-capacity .ensures)) (opened .is);
       kept = ap (λ len. trayCaps len (vec-len (tray .moves .now))) (c .put-stage .ensures .len);
+      stays = record { stage-loan = refl; move-loan = refl; stage-bytes = c .put-stage .ensures .len; move-bytes = refl };
     }
