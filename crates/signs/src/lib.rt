@@ -4,6 +4,7 @@ ghost use Prim.Native.Nat.{ℕ};
 ghost use lib.ListN.{drop};
 ghost use Rattle.signs.specs.Signs.{run, value, cap};
 ghost use Rattle.signs.specs.First.{Skipped, First, After, FirstNumber};
+ghost use Rattle.signs.specs.Writing.{Signs-right};
 use rules::line::Quantifier;
 use rules::line::QuantifierDebug;
 use rules::line::QuantifierPartialEq;
@@ -116,3 +117,8 @@ pub fn number_first(text: &[u8]) -> Option<(u32, &[u8])>
         _ => None,
     }
 }
+
+// What the promises above call the signs of a text are what it writes.
+pub fn signs_are_written()
+    ensures { λ _. ⌜ Signs-right ⌝ }
+{}
