@@ -54,6 +54,10 @@ pub record Memory : Type 0 where
   pub shortest : List Shortest
   pub longest : List Longest
 
+abbrev pub memory : List ℕ → List Reach → List Shortest → List Longest → Memory
+memory sheet reached shortest longest =
+    record { sheet = sheet; reached = reached; shortest = shortest; longest = longest }
+
 -- A word a stage in the sheet, and four entries a stage in each table.
 abbrev pub Enough : ℕ → Memory → Type 0
 Enough n m =
