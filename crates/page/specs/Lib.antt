@@ -4,3 +4,4 @@ pub mod Letters
 pub mod Splits
 pub mod Lines
 pub mod Pages
+pub mod Answers
