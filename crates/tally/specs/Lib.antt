@@ -1,0 +1,4 @@
+pub mod Algebras
+pub mod Walks
+pub mod Rounds
+pub mod Tables
