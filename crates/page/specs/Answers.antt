@@ -1,13 +1,17 @@
 -- The bytes of the answers to a page.
 use mathlib.Core.Bool.{Bool, cond}
 use mathlib.Core.List.{List, [], _∷_, _++_}
-use Prim.Native.Nat.{ℕ, _+_, _/_, _%_, _^_}
+use Prim.Native.Nat.{ℕ, _+_, _-_, _/_, _%_, _^_, _≤_}
 use lib.Chars.{codes}
 use lib.Dec.{eqb}
 use Rattle.std.specs.Written.{decimal}
-use Rattle.program.specs.Edits.{faultNumber}
-use Rattle.page.specs.declared.loading.PageFault.{PageFault}
-use Rattle.page.specs.declared.loading.PageFault.the-variants.{TooLong, OutOfForm, Edit}
+use Rattle.std.specs.declared.result.Result.{Result}
+use Rattle.std.specs.declared.result.Result.the-variants.{Ok, Err}
+use Rattle.check.specs.declared.faults.CheckFault.{CheckFault}
+use Rattle.check.specs.Faults as check
+use Rattle.page.specs.declared.faults.ConsoleFault.{ConsoleFault}
+use Rattle.page.specs.declared.faults.ConsoleFault.the-variants.{Page, Rule}
+use Rattle.page.specs.Faults.{faultNumber, faultLine}
 
 -- A line with a name (its `=` too) and a number.
 abbrev pub field : List ℕ → ℕ → List ℕ
@@ -39,16 +43,20 @@ stagesOf k sheet = stagesFrom k 0 sheet
 abbrev pub holdsLine : List ℕ → List ℕ
 holdsLine stages = codes "holds=" ++ (listed stages ++ 10 ∷ [])
 
--- The refusal of a page: its number and the line.
-abbrev pub faultOf : PageFault → ℕ
-faultOf TooLong = 16
-faultOf (OutOfForm line) = 16
-faultOf (Edit line fault) = faultNumber fault
+-- A refusal, with the line of the page or the stage that it names.
+abbrev pub refused : ConsoleFault → List ℕ
+refused (Page fault) = field (codes "refused=") (faultNumber fault) ++ field (codes "line=") (faultLine fault)
+refused (Rule fault) = field (codes "refused=") (check.faultNumber fault) ++ field (codes "at=") (check.faultStage fault)
 
-abbrev pub lineOfFault : PageFault → ℕ
-lineOfFault TooLong = 0
-lineOfFault (OutOfForm line) = line
-lineOfFault (Edit line fault) = line
+-- The answer to rule n: its refusal, or the number of its lines and the stages that the sheet names for the last one.
+abbrev pub answered : Result ℕ CheckFault → List ℕ → List ℕ
+answered (Ok lines) sheet = field (codes "lines=") lines ++ holdsLine (stagesOf (lines - 1) sheet)
+answered (Err fault) sheet = refused (Rule fault)
 
-abbrev pub pageRefused : PageFault → List ℕ
-pageRefused fault = field (codes "refused=") (faultOf fault) ++ field (codes "line=") (lineOfFault fault)
+abbrev pub ruleBytes : ℕ → Result ℕ CheckFault → List ℕ → List ℕ
+ruleBytes n answer sheet = field (codes "rule=") n ++ answered answer sheet
+
+-- A rule has from 1 to 32 lines.
+abbrev pub Lined : Result ℕ CheckFault → Type 0
+Lined (Ok lines) = (1 ≤ lines) × (lines ≤ 32)
+Lined (Err fault) = Unit {0}

@@ -4,4 +4,5 @@ pub mod Letters
 pub mod Splits
 pub mod Lines
 pub mod Pages
+pub mod Faults
 pub mod Answers

@@ -14,8 +14,8 @@ use Rattle.program.specs.Edits.{Caps, Out, accepted, openStep, layStep}
 use Rattle.page.specs.declared.line.PageLine.{PageLine}
 use Rattle.page.specs.declared.loading.Part.{Part}
 use Rattle.page.specs.declared.loading.Part.the-variants.{Stages, Moves, Rules}
-use Rattle.page.specs.declared.loading.PageFault.{PageFault}
-use Rattle.page.specs.declared.loading.PageFault.the-variants.{TooLong, OutOfForm, Edit}
+use Rattle.page.specs.declared.faults.PageFault.{PageFault}
+use Rattle.page.specs.declared.faults.PageFault.the-variants.{TooLong, OutOfForm, Edit}
 use Rattle.page.specs.Lines.{Line, stage, move, rule, write, Fits, lineOf}
 
 abbrev pub mostBytes : ℕ

@@ -5,13 +5,11 @@ ghost use Prim.Native.Nat.{_<_};
 ghost use Rattle.std.specs.Vec.{made};
 ghost use Rattle.std.specs.Written.{decimal};
 ghost use Rattle.std.specs.Of.Vec.{vec-items};
-ghost use Rattle.page.specs.Answers.{field, separator, holdsIn, stagesOf, holdsLine, faultOf, lineOfFault, pageRefused};
-use crate::loading::PageFault;
+ghost use Rattle.page.specs.Answers.{field, separator, holdsIn, stagesOf, holdsLine, refused, ruleBytes, Lined};
+use crate::faults::ConsoleFault;
 use crate::number::write_number;
+use check::faults::CheckFault;
 use std::alloc::AllocError;
-
-// The number of the refusal of a page out of form.
-const OUT_OF_FORM: u8 = 16;
 
 // Appends a line with a name, which has its `=`, and a number.
 pub(crate) fn write_field(out: &mut Vec<u8>, name: &[u8], number: usize) -> Result<(), AllocError>
@@ -59,25 +57,41 @@ pub(crate) fn write_holds(out: &mut Vec<u8>, line: usize, sheet: &[u32]) -> Resu
     Ok(())
 }
 
-impl PageFault {
-    // The number of the refusal, and the line.
-    pub fn plain(self) -> (u8, usize)
-        ensures { λ r. ⌜ r ≡ (faultOf self, lineOfFault self) ⌝ }
-    {
-        match self {
-            PageFault::TooLong => (OUT_OF_FORM, 0),
-            PageFault::OutOfForm { line } => (OUT_OF_FORM, line),
-            PageFault::Edit { line, fault } => (fault.number(), line),
+// Appends a refusal.
+pub(crate) fn write_refused(out: &mut Vec<u8>, fault: ConsoleFault) -> Result<(), AllocError>
+    ensures { λ r. ⌜ made r (λ _. vec-items (now (out .exit)) ≡ vec-items (now (out .entry)) ++ refused fault) ⌝ }
+{
+    match fault {
+        ConsoleFault::Page(fault) => {
+            write_field(out, b"refused=", fault.number() as usize)?;
+            write_field(out, b"line=", fault.line())?;
+        }
+        ConsoleFault::Rule(fault) => {
+            let (number, _, stage) = fault.plain();
+            write_field(out, b"refused=", number as usize)?;
+            write_field(out, b"at=", stage)?;
         }
     }
+    Ok(())
 }
 
-// Appends what a refused page is answered by.
-pub(crate) fn write_refused_page(out: &mut Vec<u8>, fault: PageFault) -> Result<(), AllocError>
-    ensures { λ r. ⌜ made r (λ _. vec-items (now (out .exit)) ≡ vec-items (now (out .entry)) ++ pageRefused fault) ⌝ }
+// Appends the answer to a rule: its number, and how it was checked.
+pub(crate) fn write_rule(
+    out: &mut Vec<u8>,
+    number: usize,
+    answer: Result<usize, CheckFault>,
+    sheet: &[u32],
+) -> Result<(), AllocError>
+    requires { ⌜ Lined answer ⌝ }
+    ensures { λ r. ⌜ made r (λ _. vec-items (now (out .exit)) ≡ vec-items (now (out .entry)) ++ ruleBytes number answer (now (sheet .entry))) ⌝ }
 {
-    let (number, line) = fault.plain();
-    write_field(out, b"refused=", number as usize)?;
-    write_field(out, b"line=", line)?;
+    write_field(out, b"rule=", number)?;
+    match answer {
+        Ok(lines) => {
+            write_field(out, b"lines=", lines)?;
+            write_holds(out, lines - 1, sheet)?;
+        }
+        Err(fault) => write_refused(out, ConsoleFault::Rule(fault))?,
+    }
     Ok(())
 }

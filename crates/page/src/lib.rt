@@ -1,5 +1,6 @@
 // The console page: a function from the bytes of a page to the bytes of its answers.
 mod answers;
+pub mod faults;
 pub mod line;
 pub mod loading;
 pub mod marks;
