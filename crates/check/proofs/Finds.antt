@@ -3,9 +3,9 @@ use mathlib.Core.Path.{_≡_, refl, sym, _∙_, ap, subst}
 use mathlib.Core.List.{List}
 use mathlib.Core.Bool.{Bool, true, false}
 use mathlib.Core.Logic.{⊎-elim}
-use Prim.Native.Nat.{ℕ, zero, suc, _<_}
+use Prim.Native.Nat.{ℕ, zero, suc, _*_, _<_}
 use lib.ListN.{length, getD}
-use lib.Dec.{T, ltb, eqb, eqb-refl, lt→ltb}
+use lib.Dec.{T, leb, leb→le, le→leb, ltb, eqb, eqb-refl, lt→ltb}
 use Rattle.std.proofs.shelf.Lists.{length-map}
 use Rattle.std.proofs.shelf.Tests.{cases-bool}
 use Rattle.program.specs.declared.Stage.{Stage}
@@ -16,14 +16,47 @@ use Rattle.tally.specs.Rounds.{Within}
 use Rattle.tctl.specs.Graph as timed
 use Rattle.tctl.specs.Runs.{Sound}
 use Rattle.tctl.specs.Checker.{non, at, table, endless, still, any-move, into, all-below, _and_}
-use Rattle.tctl.proofs.Basics.{and-i, table-e, table-i}
+use Rattle.tctl.proofs.Basics.{and-l, and-r, and-i, table-e, table-i}
 use Rattle.tctl.proofs.Endless.{into-i, in-step, in-set, in-pull, fixed}
 use Rattle.tctl.proofs.Tested.{all-i, test-right}
 use Rattle.sheet.specs.Rows.{prog, graphOf, both}
 use Rattle.sheet.proofs.Sets.{move-at}
-use Rattle.check.specs.Outcomes.{All-onward, Cycle}
-use Rattle.check.specs.Found.{ahead, steps}
+use Rattle.check.specs.Outcomes.{Memory, Enough, All-onward, Cycle}
+use Rattle.check.specs.Found.{enough?, ahead, steps}
 use Rattle.check.proofs.Cycles.{goes-round, stays, steps-same, cycle-next, has-place}
+
+-- The test of the memory.
+module _ (n : ℕ) (m : Memory) where
+  abbrev a : Bool
+  a = leb n (length (m .sheet))
+
+  abbrev b : Bool
+  b = leb (4 * n) (length (m .reached))
+
+  abbrev c : Bool
+  c = leb (4 * n) (length (m .shortest))
+
+  abbrev d : Bool
+  d = leb (4 * n) (length (m .longest))
+
+  pub enough-if : enough? n m ≡ true → Enough n m
+  enough-if e =
+      let t = subst (λ (x : Bool). T x) (sym e) tt in
+      let u = and-r a (both b (both c d)) t in
+      let v = and-r b (both c d) u in (
+        leb→le n (length (m .sheet)) (and-l a (both b (both c d)) t),
+        leb→le (4 * n) (length (m .reached))
+            (and-l b (both c d) u),
+        leb→le (4 * n) (length (m .shortest)) (and-l c d v),
+        leb→le (4 * n) (length (m .longest)) (and-r c d v),
+      )
+
+  pub short-if : enough? n m ≡ false → Enough n m → ⊥
+  short-if f e =
+      subst (λ (x : Bool). T x) f
+      (and-i a (both b (both c d)) (le→leb n (length (m .sheet)) (e .0))
+      (and-i b (both c d) (le→leb (4 * n) (length (m .reached)) (e .1))
+      (and-i c d (le→leb (4 * n) (length (m .shortest)) (e .2)) (le→leb (4 * n) (length (m .longest)) (e .3)))))
 
 module _ (stages : List Stage) (moves : List Move) (within : Within (length stages) moves) where
   abbrev P : Prog

@@ -1,9 +1,9 @@
--- What the two tests of a program find.
+-- What the tests of a program and of the memory find.
 use mathlib.Core.Path.{_≡_}
 use mathlib.Core.List.{List, [], _∷_}
 use mathlib.Core.Bool.{Bool, true, false, cond}
-use Prim.Native.Nat.{ℕ, zero, suc, _<_}
-use lib.Dec.{eqb}
+use Prim.Native.Nat.{ℕ, zero, suc, _*_, _<_}
+use lib.Dec.{eqb, leb}
 use lib.ListN.{length}
 use Rattle.std.specs.declared.option.Option.{Option}
 use Rattle.std.specs.declared.option.Option.the-variants.{Some, None}
@@ -12,7 +12,7 @@ use Rattle.program.specs.Meaning.{Prog}
 use Rattle.program.specs.Graphs.{timedMove}
 use Rattle.tctl.specs.Checker.{still}
 use Rattle.sheet.specs.Rows.{both}
-use Rattle.check.specs.Outcomes.{All-onward, Dead-end, Cycle}
+use Rattle.check.specs.Outcomes.{Memory, All-onward, Dead-end, Cycle}
 
 -- The lowest stage that no move leaves, or there is none.
 abbrev pub Dead-found : Prog → Option ℕ → Type 0
@@ -23,6 +23,13 @@ Dead-found p None = All-onward p
 abbrev pub Cycle-found : Prog → Option ℕ → Type 0
 Cycle-found p (Some s) = (s < length (p .stages)) × Cycle p s
 Cycle-found p None = (s : ℕ) → Cycle p s → ⊥
+
+-- There is a word a stage in the sheet, and four entries a stage in each table.
+abbrev pub enough? : ℕ → Memory → Bool
+enough? n m =
+    both (leb n (length (m .sheet)))
+    (both (leb (4 * n) (length (m .reached))) (both (leb (4 * n) (length (m .shortest)))
+    (leb (4 * n) (length (m .longest)))))
 
 -- A number below n that passes a test, or there is none.
 abbrev pub Found : ℕ → (ℕ → Bool) → Option ℕ → Type 0

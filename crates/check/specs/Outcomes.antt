@@ -16,7 +16,7 @@ use Rattle.tally.specs.Walks.{Has}
 use Rattle.sheet.specs.Told.{Spent}
 use Rattle.sheet.specs.Sheets.{Names}
 use Rattle.check.specs.declared.faults.CheckFault.{CheckFault}
-use Rattle.check.specs.declared.faults.CheckFault.the-variants.{NoStage, DeadEnd, StillCycle, ShortMemory}
+use Rattle.check.specs.declared.faults.CheckFault.the-variants.{Text, NoStage, DeadEnd, StillCycle, ShortMemory}
 
 -- Some move leaves s.
 abbrev pub Onward : Prog → ℕ → Type 0
@@ -60,17 +60,20 @@ Enough n m =
     (n ≤ length (m .sheet)) × (4 * n ≤ length (m .reached)) × (4 * n ≤ length (m .shortest))
     × (4 * n ≤ length (m .longest))
 
--- A check of these lines is refused: the first fault that fits.
+-- A check is made.
+abbrev pub Accepted : Prog → Memory → Type 0
+Accepted p was = Checkable p × Enough (length (p .stages)) was
+
+-- A check of lines is refused: the first fault that fits.
 abbrev pub Refused : Prog → Memory → CheckFault → Type 0
+Refused p was (Text e) = ⊥
 Refused p was NoStage = length (p .stages) ≡ 0
 Refused p was (DeadEnd s) = Dead-end p s
 Refused p was (StillCycle s) = All-onward p × (s < length (p .stages)) × Cycle p s
 Refused p was ShortMemory = Checkable p × (Enough (length (p .stages)) was → ⊥)
 
--- It is made: the sheet names exactly what holds, and the tables are none again, four entries a stage.
+-- What a check that is made leaves: the sheet names exactly what holds, and four entries a stage are none in each table.
 pub record Made (p : Prog) (lines : List Line) (was after : Memory) : Type 0 where
-  pub checkable : Checkable p
-  pub enough : Enough (length (p .stages)) was
   pub names : Names p lines (was .sheet) (after .sheet)
   pub reached : Spent (reachAlgebra .none) (length (p .stages)) (was .reached) (after .reached)
   pub shortest : Spent (shortestAlgebra .none) (length (p .stages)) (was .shortest) (after .shortest)
@@ -78,5 +81,5 @@ pub record Made (p : Prog) (lines : List Line) (was after : Memory) : Type 0 whe
 
 -- The answer is the number of lines; a refusal leaves all memory as found.
 abbrev pub Outcome : Prog → List Line → Memory → Memory → Result ℕ CheckFault → Type 0
-Outcome p lines was after (Ok k) = Made p lines was after × (k ≡ length lines)
+Outcome p lines was after (Ok k) = Accepted p was × (k ≡ length lines) × Made p lines was after
 Outcome p lines was after (Err e) = Refused p was e × (after ≡ was)

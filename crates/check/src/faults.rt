@@ -1,9 +1,14 @@
 // Why a check is refused.
 ghost use mathlib.Core.Path.{_≡_};
 ghost use Rattle.check.specs.Faults.{faultNumber, faultPart, faultStage};
+use reader::ReadFault;
+use reader::ReadFaultDebug;
+use reader::ReadFaultPartialEq;
 
-#[derive(Clone, Copy, PartialEq, Eq, Debug)]
+#[derive(Clone, Copy, PartialEq, Debug)]
 pub enum CheckFault {
+    // the text is no rule that can be checked
+    Text(ReadFault),
     NoStage,
     // a stage without a move out
     DeadEnd(usize),
@@ -11,14 +16,6 @@ pub enum CheckFault {
     StillCycle(usize),
     // the sheet has fewer words than there are stages, or a table fewer than four entries a stage
     ShortMemory,
-}
-
-// What a refusal lies in.
-#[derive(Clone, Copy, PartialEq, Eq, Debug)]
-pub enum Part {
-    Text,
-    Program,
-    Memory,
 }
 
 impl CheckFault {
@@ -29,6 +26,7 @@ impl CheckFault {
         ensures stage { λ r. ⌜ r .2 ≡ faultStage self ⌝ }
     {
         match self {
+            CheckFault::Text(fault) => (fault.number(), 0, 0),
             CheckFault::NoStage => (12, 1, 0),
             CheckFault::DeadEnd(s) => (13, 1, s),
             CheckFault::StillCycle(s) => (14, 1, s),

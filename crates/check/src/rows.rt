@@ -1,4 +1,5 @@
 // The check of lines over plain slices, after the two tests of the program and that of the memory.
+ghost use mathlib.Core.Path.{_≡_};
 ghost use Prim.Native.Nat.{_≤_};
 ghost use lib.ListN.{length};
 ghost use Rattle.program.specs.Meaning.{mostStages};
@@ -6,6 +7,7 @@ ghost use Rattle.rules.specs.Lines.{mostLines, Well-formed};
 ghost use Rattle.tally.specs.Rounds.{Within};
 ghost use Rattle.sheet.specs.Rows.{prog};
 ghost use Rattle.check.specs.Outcomes.{Outcome};
+ghost use Rattle.check.specs.Found.{enough?};
 use crate::faults::CheckFault;
 use crate::tests::dead_end;
 use crate::tests::still_stage;
@@ -20,6 +22,26 @@ use tally::ReachTally;
 use tally::Shortest;
 use tally::ShortestTally;
 
+// Whether the sheet has a word a stage, and each table four entries a stage.
+fn has_room(
+    n: usize,
+    sheet: &[u32],
+    reached: &[Reach],
+    shortest: &[Shortest],
+    longest: &[Longest],
+) -> bool
+    requires { ⌜ n ≤ mostStages ⌝ }
+    ensures { λ r. ⌜ r ≡ enough? n (record {
+      sheet = now (sheet .entry);
+      reached = now (reached .entry);
+      shortest = now (shortest .entry);
+      longest = now (longest .entry);
+    }) ⌝ }
+{
+    n <= sheet.len() && 4 * n <= reached.len() && 4 * n <= shortest.len() && 4 * n <= longest.len()
+}
+
+// The check of lines, each of which may stand where it does.
 pub fn check_rows(
     stages: &[Stage],
     moves: &[Move],
@@ -57,16 +79,7 @@ pub fn check_rows(
     if let Some(s) = still_stage(stages, moves) {
         return Err(CheckFault::StillCycle(s));
     }
-    if sheet.len() < n {
-        return Err(CheckFault::ShortMemory);
-    }
-    if reached.len() < 4 * n {
-        return Err(CheckFault::ShortMemory);
-    }
-    if shortest.len() < 4 * n {
-        return Err(CheckFault::ShortMemory);
-    }
-    if longest.len() < 4 * n {
+    if !has_room(n, sheet, reached, shortest, longest) {
         return Err(CheckFault::ShortMemory);
     }
     check_lines(stages, moves, lines, sheet, reached, shortest, longest);

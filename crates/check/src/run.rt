@@ -4,6 +4,7 @@ ghost use Prim.Native.Nat.{_≤_};
 ghost use lib.ListN.{length, take};
 ghost use Rattle.rules.specs.Lines.{mostLines, Well-formed};
 ghost use Rattle.check.specs.Outcomes.{Outcome};
+ghost use Rattle.check.specs.Checks.{Check};
 use crate::faults::CheckFault;
 use crate::rows::check_rows;
 use program::MOST_MOVES;
@@ -12,6 +13,7 @@ use program::NO_MOVE;
 use program::NO_STAGE;
 use program::Program;
 use program::Stage;
+use reader::read;
 use rules::line::Line;
 use tally::Longest;
 use tally::LongestTally;
@@ -70,4 +72,33 @@ pub fn check_lines_of<P: Program>(
         shortest,
         longest,
     )
+}
+
+// The check of a rule: the number of its lines, and on the sheet, word by word, the lines that hold at each stage.
+pub fn check<P: Program>(
+    program: &P,
+    text: &[u8],
+    sheet: &mut [u32],
+    reached: &mut [Reach],
+    shortest: &mut [Shortest],
+    longest: &mut [Longest],
+) -> Result<usize, CheckFault>
+    ensures { λ r. ⌜ Check (P·Program .meaning (now (program .entry))) (now (text .entry))
+        (record {
+          sheet = now (sheet .entry);
+          reached = now (reached .entry);
+          shortest = now (shortest .entry);
+          longest = now (longest .entry);
+        })
+        (record {
+          sheet = now (sheet .exit);
+          reached = now (reached .exit);
+          shortest = now (shortest .exit);
+          longest = now (longest .exit);
+        }) r ⌝ }
+{
+    match read(text) {
+        Ok(rule) => check_lines_of(program, rule.lines(), sheet, reached, shortest, longest),
+        Err(fault) => Err(CheckFault::Text(fault)),
+    }
 }

@@ -1,6 +1,8 @@
-use mathlib.Core.Path.{refl}
+use mathlib.Core.Path.{refl, sym, _∙_}
 use native.Mathlib.Omega.{arith}
-use Rattle.check.proofs.Finds.{sound-if}
+use lib.ListN.{length}
+use Rattle.check.specs.Outcomes.{Memory}
+use Rattle.check.proofs.Finds.{sound-if, enough-if, short-if}
 use Rattle.check.proofs.rows.check_rows.Needs as need
 
 pub returns-in-Some-still-stage : need.returns-in-Some-still-stage
@@ -8,44 +10,33 @@ returns-in-Some-still-stage c =
     let found = c .in-Some-still-stage .ensures tt in
     ((c .in-rest .ensures tt, found .0, found .1), refl)
 
-pub returns-then-sheet-n : need.returns-then-sheet-n
-returns-then-sheet-n c = (
-  (
-    record { some = omega arith; onward = c .in-rest .ensures tt; moving = c .in-rest-still-stage .ensures tt },
-    (λ enough. omega (arith, enough .0, c .if-sheet-n .taken)),
-  ),
-  refl,
-)
-
-pub returns-then-reached-n : need.returns-then-reached-n
-returns-then-reached-n c = (
-  (
-    record { some = omega arith; onward = c .in-rest .ensures tt; moving = c .in-rest-still-stage .ensures tt },
-    (λ enough. omega (arith, enough .1, c .if-reached-n .taken)),
-  ),
-  refl,
-)
-
-pub returns-then-shortest-n : need.returns-then-shortest-n
-returns-then-shortest-n c = (
-  (
-    record { some = omega arith; onward = c .in-rest .ensures tt; moving = c .in-rest-still-stage .ensures tt },
-    (λ enough. omega (arith, enough .2, c .if-shortest-n .taken)),
-  ),
-  refl,
-)
-
-pub returns-then-longest-n : need.returns-then-longest-n
-returns-then-longest-n c = (
-  (
-    record { some = omega arith; onward = c .in-rest .ensures tt; moving = c .in-rest-still-stage .ensures tt },
-    (λ enough. omega (arith, enough .3, c .if-longest-n .taken)),
-  ),
-  refl,
-)
+pub returns-then-not-has-room : need.returns-then-not-has-room
+returns-then-not-has-room c =
+    let was : Memory =
+    record {
+      sheet = c .args .sheet .now;
+      reached = c .args .reached .now;
+      shortest = c .args .shortest .now;
+      longest = c .args .longest .now;
+    } in (
+      (
+        record { some = omega arith; onward = c .in-rest .ensures tt; moving = c .in-rest-still-stage .ensures tt },
+        short-if (length (c .args .stages .now)) was (sym (c .if-not-has-room .ensures tt)),
+      ),
+      refl,
+    )
 
 pub check-lines-requires : need.check-lines-requires
 check-lines-requires c κs =
+    let was : Memory =
+    record {
+      sheet = c .args .sheet .now;
+      reached = c .args .reached .now;
+      shortest = c .args .shortest .now;
+      longest = c .args .longest .now;
+    } in
+    let enough = enough-if (length (c .args .stages .now)) was (sym (c .has-room .ensures) ∙ c .if-not-has-room .left)
+    in
     record {
       few = c .pre .few;
       sound =
@@ -53,23 +44,31 @@ check-lines-requires c κs =
           (c .in-rest-still-stage .ensures tt);
       lines = c .pre .lines;
       formed = c .pre .formed;
-      sheet = omega arith;
-      room-reached = omega arith;
-      room-shortest = omega arith;
-      room-longest = omega arith;
+      sheet = enough .0;
+      room-reached = enough .1;
+      room-shortest = enough .2;
+      room-longest = enough .3;
     }
 
 pub returns : need.returns
 returns c =
-    let all = c .check-lines .ensures in (
+    let all = c .check-lines .ensures in
+    let was : Memory =
+    record {
+      sheet = c .args .sheet .now;
+      reached = c .args .reached .now;
+      shortest = c .args .shortest .now;
+      longest = c .args .longest .now;
+    } in (
+      (
+        record { some = omega arith; onward = c .in-rest .ensures tt; moving = c .in-rest-still-stage .ensures tt },
+        enough-if (length (c .args .stages .now)) was (sym (c .has-room .ensures) ∙ c .if-not-has-room .left),
+      ),
+      refl,
       record {
-        checkable =
-            record { some = omega arith; onward = c .in-rest .ensures tt; moving = c .in-rest-still-stage .ensures tt };
-        enough = (omega arith, omega arith, omega arith, omega arith);
         names = all .names;
         reached = all .spent-reached;
         shortest = all .spent-shortest;
         longest = all .spent-longest;
       },
-      refl,
     )
