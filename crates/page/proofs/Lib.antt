@@ -4,3 +4,6 @@ pub mod Cuts
 pub mod Readings
 pub mod Loads
 pub mod Printed
+pub mod LastLine
+pub mod Told
+pub mod Series

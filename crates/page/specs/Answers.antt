@@ -48,13 +48,22 @@ abbrev pub refused : ConsoleFault → List ℕ
 refused (Page fault) = field (codes "refused=") (faultNumber fault) ++ field (codes "line=") (faultLine fault)
 refused (Rule fault) = field (codes "refused=") (check.faultNumber fault) ++ field (codes "at=") (check.faultStage fault)
 
--- The answer to rule n: its refusal, or the number of its lines and the stages that the sheet names for the last one.
-abbrev pub answered : Result ℕ CheckFault → List ℕ → List ℕ
-answered (Ok lines) sheet = field (codes "lines=") lines ++ holdsLine (stagesOf (lines - 1) sheet)
-answered (Err fault) sheet = refused (Rule fault)
+-- The console's answer to a rule: the number of its lines and the stages at which it holds, or the refusal.
+abbrev pub Answer : Type 0
+Answer = Result (ℕ × List ℕ) CheckFault
 
-abbrev pub ruleBytes : ℕ → Result ℕ CheckFault → List ℕ → List ℕ
-ruleBytes n answer sheet = field (codes "rule=") n ++ answered answer sheet
+abbrev pub answerBytes : Answer → List ℕ
+answerBytes (Ok a) = field (codes "lines=") (a .0) ++ holdsLine (a .1)
+answerBytes (Err fault) = refused (Rule fault)
+
+-- The answer from what a check gave and the sheet that it left: the stages are those of the last line.
+abbrev pub answerOf : Result ℕ CheckFault → List ℕ → Answer
+answerOf (Ok lines) sheet = Ok (lines, stagesOf (lines - 1) sheet)
+answerOf (Err fault) sheet = Err fault
+
+-- The bytes for rule n.
+abbrev pub ruleBytes : ℕ → Answer → List ℕ
+ruleBytes n answer = field (codes "rule=") n ++ answerBytes answer
 
 -- A rule has from 1 to 32 lines.
 abbrev pub Lined : Result ℕ CheckFault → Type 0

@@ -6,3 +6,4 @@ pub mod Lines
 pub mod Pages
 pub mod Faults
 pub mod Answers
+pub mod Console

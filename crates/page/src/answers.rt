@@ -5,7 +5,7 @@ ghost use Prim.Native.Nat.{_<_};
 ghost use Rattle.std.specs.Vec.{made};
 ghost use Rattle.std.specs.Written.{decimal};
 ghost use Rattle.std.specs.Of.Vec.{vec-items};
-ghost use Rattle.page.specs.Answers.{field, separator, holdsIn, stagesOf, holdsLine, refused, ruleBytes, Lined};
+ghost use Rattle.page.specs.Answers.{field, separator, holdsIn, stagesOf, holdsLine, refused, answerOf, ruleBytes, Lined};
 use crate::faults::ConsoleFault;
 use crate::number::write_number;
 use check::faults::CheckFault;
@@ -83,7 +83,7 @@ pub(crate) fn write_rule(
     sheet: &[u32],
 ) -> Result<(), AllocError>
     requires { ⌜ Lined answer ⌝ }
-    ensures { λ r. ⌜ made r (λ _. vec-items (now (out .exit)) ≡ vec-items (now (out .entry)) ++ ruleBytes number answer (now (sheet .entry))) ⌝ }
+    ensures { λ r. ⌜ made r (λ _. vec-items (now (out .exit)) ≡ vec-items (now (out .entry)) ++ ruleBytes number (answerOf answer (now (sheet .entry)))) ⌝ }
 {
     write_field(out, b"rule=", number)?;
     match answer {

@@ -5,4 +5,6 @@ pub mod line;
 pub mod loading;
 pub mod marks;
 pub mod number;
+pub mod pages;
+pub mod rules;
 pub mod split;
