@@ -10,12 +10,17 @@ use Rattle.std.proofs.shelf.Lists.{append-assoc, append-nil, length-append, len
 use Rattle.std.specs.declared.result.Result.the-variants.{Ok, Err}
 use Rattle.std.specs.Results.{isOk}
 use Rattle.program.specs.Meaning.{Prog}
-use Rattle.page.specs.declared.loading.Part.the-variants.{Rules}
+use Rattle.program.specs.Edits.{Caps}
+use Rattle.page.specs.declared.loading.Part.{Part}
+use Rattle.page.specs.declared.loading.Part.the-variants.{Stages, Moves, Rules}
 use Rattle.page.specs.Splits.{Lacks}
-use Rattle.page.specs.Lines.{rule, write}
-use Rattle.page.specs.Pages.{bytesOf, rulesOf, NoLine}
+use Rattle.page.specs.Lines.{Line, stage, move, rule, write}
+use Rattle.page.specs.Pages.{bytesOf, rulesOf, textsOf, Follows, InForm, NoLine, Whole}
 use Rattle.page.specs.Answers.{Answer, ruleBytes}
 use Rattle.page.specs.Console.{Answers, AllAnswered, bytesFrom, checkedAmong, Texts, Adds, AddsAll}
+use Rattle.page.specs.Whole.{PageAnswered}
+use Rattle.page.proofs.Cuts.{one-cut}
+use Rattle.page.proofs.Readings.{line-lacks-end}
 
 rules-push : (texts : List (List ℕ)) (text rest : List ℕ)
     → rulesOf (texts ++ text ∷ []) ++ rest ≡ rulesOf texts ++ (write (rule text) ++ 10 ∷ rest)
@@ -140,3 +145,51 @@ module _ {p : Prog} {rules before rest out : List ℕ} {checked refused : ℕ} (
         checked-is = s .checked-is;
         refused-is = s .refused-is;
       }
+
+follows-rules : (text : List ℕ) → Lacks 10 text → Follows Rules (rule text)
+follows-rules text l = record { fits = l; later = omega arith }
+
+-- Bytes are those of rules in one way.
+pub same-rules : (ts us : List (List ℕ)) (rest : List ℕ) → Texts ts → Texts us → rulesOf ts ≡ rulesOf us ++ rest
+    → NoLine Rules rest → ts ≡ us
+same-rules [] [] rest f g e none = refl
+same-rules (t ∷ ts) [] rest f g e none = absurd (none (rule t) (rulesOf ts) (follows-rules t (f .0)) (sym e))
+same-rules [] (u ∷ us) rest f g e none = absurd (let z : _≡_ {A = ℕ} 0 1 = cc in omega arith)
+same-rules (t ∷ ts) (u ∷ us) rest f g e none =
+    let h = one-cut 10 (write (rule t)) (write (rule u)) (rulesOf ts) (rulesOf us ++ rest)
+    (line-lacks-end (rule t) (f .0)) (line-lacks-end (rule u) (g .0))
+    (e ∙ append-assoc (write (rule u)) (10 ∷ rulesOf us) rest) in
+    let first : t ≡ u = cc in
+    let more : ts ≡ us = same-rules ts us rest (f .1) (g .1) (h .1) none in
+    cc
+
+form-texts : (part : Part) (ls : List Line) → InForm part ls → Texts (textsOf ls)
+form-texts part [] i = tt
+form-texts part (stage marks ∷ ls) i = form-texts Stages ls (i .1)
+form-texts part (move s d t ∷ ls) i = form-texts Moves ls (i .1)
+form-texts part (rule text ∷ ls) i = (i .0 .fits, form-texts Rules ls (i .1))
+
+pub page-answered : {caps : Caps} {start p : Prog} {page rules before after : List ℕ} {checked declined : ℕ} (stages moves : ℕ)
+    → Whole caps start page rules p → AddsAll p rules before after checked declined
+    → stages ≡ length (p .stages) → moves ≡ length (p .moves)
+    → (bytes : List ℕ) × (after ≡ before ++ bytes) × PageAnswered caps start page bytes stages moves checked declined
+page-answered {p = p} stages moves w a s m =
+    let same : textsOf (w .lines) ≡ a .texts =
+    same-rules (textsOf (w .lines)) (a .texts) (a .rest) (form-texts Stages (w .lines) (w .took .form)) (a .whole)
+    (sym (w .rules-are) ∙ a .rules-are) (a .ends) in (
+      bytesFrom 0 (a .answers),
+      a .bytes,
+      record {
+        lines = w .lines;
+        made = p;
+        answers = a .answers;
+        short = w .short;
+        took = w .took;
+        answered = subst (λ ts. AllAnswered p ts (a .answers)) (sym same) (a .answered);
+        bytes-are = refl;
+        stages-are = s;
+        moves-are = m;
+        checked-is = a .checked-is;
+        declined-is = a .refused-is;
+      },
+    )

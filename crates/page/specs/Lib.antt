@@ -7,3 +7,4 @@ pub mod Pages
 pub mod Faults
 pub mod Answers
 pub mod Console
+pub mod Whole

@@ -1,4 +1,7 @@
 // A page is answered over an empty store: it is loaded, and then its rules are checked one after another.
+ghost use Rattle.std.specs.Vec.{made};
+ghost use Rattle.std.specs.Of.Vec.{vec-items};
+ghost use Rattle.page.specs.Whole.{AddsPage};
 use crate::answers::write_refused;
 use crate::faults::ConsoleFault;
 use crate::faults::PageFault;
@@ -32,7 +35,10 @@ pub(crate) fn answer_over<S: Store>(
     store: &mut S,
     page: &[u8],
     out: &mut Vec<u8>,
-) -> Result<Summary, AllocError> {
+) -> Result<Summary, AllocError>
+    ensures { λ r. ⌜ made r (λ summary. AddsPage (room (now (store .entry))) (S·Program .meaning (now (store .entry)))
+        (now (page .entry)) (vec-items (now (out .entry))) (vec-items (now (out .exit))) summary) ⌝ }
+{
     match load(store, page) {
         Ok(rules) => {
             let rules = answer_rules(store, rules, out)?;
