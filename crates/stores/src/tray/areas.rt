@@ -5,6 +5,13 @@ ghost use lib.ListN.{length, replicate};
 ghost use Rattle.std.specs.Of.Vec.{vec-items, vec-len};
 ghost use Rattle.stores.specs.Areas.{put, lowHigh, numberAt};
 
+// The two byte areas that a tray is lent. They may have any length and content.
+#[derive(Drop)]
+pub struct Areas {
+    pub stages: Vec<u8>,
+    pub moves: Vec<u8>,
+}
+
 // Sets every byte to 0.
 pub fn clear(area: &mut Vec<u8>)
     ensures items { λ _. ⌜ vec-items (now (area .exit)) ≡ replicate (vec-len (now (area .entry))) 0 ⌝ }

@@ -45,8 +45,8 @@ ruleset ends = (Logic.id⊢, Impl.to-emp, Less.less)
 tray-limits : (t : tray.Tray) → Limits (trayMeaning t)
 tray-limits t =
     record {
-      few-stages = omega (arith, length-inUse stageLayout (t .«stage_count») (t .stages .now .items));
-      few-moves = omega (arith, length-inUse moveLayout (t .«move_count») (t .moves .now .items));
+      few-stages = omega (arith, length-inUse stageLayout (t .«stage_count») (t .areas .now .stages .items));
+      few-moves = omega (arith, length-inUse moveLayout (t .«move_count») (t .areas .now .moves .items));
       ends = t .ends;
     }
 
