@@ -15,11 +15,12 @@ use Rattle.stores.specs.Allowed.{LayAllowed}
 pub refuses : (o : Out) (e : EditFault) (p : Prog) → o ≡ refused e p → Does o (Err e) p
 refuses o e p h = rw h (record { answers = refl; leaves = refl })
 
-pub open-full : (caps : Caps) (p : Prog) (m : ℕ) → caps .stages ≤ length (p .stages) → Does (openStep caps p m) (Err StagesFull) p
+pub open-full : (caps : Caps) (p : Prog) (m : ℕ) → caps .stages ≤ length (p .stages)
+    → Does (openStep caps p m) (Err StagesFull) p
 open-full caps p m h = refuses _ _ p (rw (le-ltb (length (p .stages)) (caps .stages) h))
 
-pub lay-full : (caps : Caps) (p : Prog) (s d t : ℕ) (r : Move) → LayAllowed p s d t r → caps .moves ≤ length (p .moves)
-    → Does (layStep caps p s d t) (Err MovesFull) p
+pub lay-full : (caps : Caps) (p : Prog) (s d t : ℕ) (r : Move) → LayAllowed p s d t r
+    → caps .moves ≤ length (p .moves) → Does (layStep caps p s d t) (Err MovesFull) p
 lay-full caps p s d t r a h =
     refuses _ _ p (rw (
       lt-ltb s (length (p .stages)) (a .leaves-stage),

@@ -39,7 +39,7 @@ module _ (n k : ℕ) (a : Areas)
   pub tray-opened : (m : ℕ) (b : Areas) → StagePut a n (record { marks = m; kind = Open }) b
       → Edited (n + 1) k b (withStage (areasProg n k a) m)
   tray-opened m b e =
-      let w = record-appended stageLayout stage-lawful n (vec-items (a .stages)) hs _ (vec-items (b .stages)) (e .written) in
+      let w = record-appended stageLayout stage-lawful n _ hs _ (vec-items (b .stages)) (e .written) in
       record {
         is = same-prog _ _ (w .reads) (ap (λ v. inUse moveLayout k (vec-items v)) (e .moves));
         stage-area = w .holds;
@@ -49,18 +49,19 @@ module _ (n k : ℕ) (a : Areas)
   pub tray-marked : (s m : ℕ) (r : Stage) (b : Areas) → s < n → r ≡ stageAt (areasProg n k a) s
       → StagePut a s (record { marks = m; kind = r .kind }) b → Edited n k b (withMarks (areasProg n k a) s m)
   tray-marked s m r b below found e =
-      let w = record-replaced stageLayout stage-lawful n (vec-items (a .stages)) hs _ s (vec-items (b .stages)) below (e .written) in
-      let marked = λ (v : Stage). set (inUse stageLayout n (vec-items (a .stages))) s (record { marks = m; kind = v .kind }) in
+      let w = record-replaced stageLayout stage-lawful n _ hs _ s (vec-items (b .stages)) below (e .written) in
+      let stages = inUse stageLayout n (vec-items (a .stages)) in
+      let marked = λ (v : Stage). set stages s (record { marks = m; kind = v .kind }) in
       record {
         is = same-prog _ _ (w .reads ∙ ap marked found) (ap (λ v. inUse moveLayout k (vec-items v)) (e .moves));
         stage-area = w .holds;
         move-area = subst (λ v. Holds moveLayout k (vec-items v)) (sym (e .moves)) hm;
       }
 
-  pub tray-laid : (s d t : ℕ) (r : Move) (b : Areas) → r ≡ record { leaves = s; minutes = d; enters = t } → MovePut a k r b
-      → Edited n (k + 1) b (withMove (areasProg n k a) s d t)
+  pub tray-laid : (s d t : ℕ) (r : Move) (b : Areas) → r ≡ record { leaves = s; minutes = d; enters = t }
+      → MovePut a k r b → Edited n (k + 1) b (withMove (areasProg n k a) s d t)
   tray-laid s d t r b laid e =
-      let w = record-appended moveLayout move-lawful k (vec-items (a .moves)) hm r (vec-items (b .moves)) (e .written) in
+      let w = record-appended moveLayout move-lawful k _ hm r (vec-items (b .moves)) (e .written) in
       let grown = λ (v : Move). inUse moveLayout k (vec-items (a .moves)) ++ (v ∷ []) in
       record {
         is = same-prog _ _ (ap (λ v. inUse stageLayout n (vec-items v)) (e .stages)) (w .reads ∙ ap grown laid);

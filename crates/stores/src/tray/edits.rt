@@ -2,14 +2,13 @@
 ghost use mathlib.Core.Path.{_≡_};
 ghost use denote.Ref.{now, name};
 ghost use Rattle.program.specs.Meaning.{empty};
-ghost use Rattle.program.specs.Edits.{Does, openStep, markStep, layStep};
-ghost use Rattle.stores.specs.InTray.{trayMeaning, trayRoom, SameLoan};
+ghost use Rattle.stores.specs.InTray.{trayMeaning, trayRoom, OpenDone, MarkDone, LayDone, SameLoan};
 ghost use Rattle.stores.specs.Trays.{Image, SameLengths};
 use crate::allowed::allowed_move;
 use crate::allowed::open_stage;
 use crate::tray::Tray;
 use crate::tray::areas::Areas;
-use crate::tray::areas::clear;
+use crate::tray::bytes::clear;
 use crate::tray::records::MOVE_BYTES;
 use crate::tray::records::STAGE_BYTES;
 use crate::tray::records::put_move;
@@ -93,7 +92,7 @@ pub impl<'a> Store for Tray<'a> as TrayStore {
     }
 
     fn open(&mut self, marks: u16) -> Result<usize, EditFault>
-        ensures does { λ r. ⌜ Does (openStep (trayRoom (now (self .entry))) (trayMeaning (now (self .entry))) marks) r (trayMeaning (now (self .exit))) ⌝ }
+        ensures does { λ r. ⌜ OpenDone (now (self .entry)) marks r (now (self .exit)) ⌝ }
         ensures kept { λ _. ⌜ trayRoom (now (self .exit)) ≡ trayRoom (now (self .entry)) ⌝ }
         ensures stays { λ _. ⌜ SameLoan (now (self .entry)) (now (self .exit)) ⌝ }
     {
@@ -111,7 +110,7 @@ pub impl<'a> Store for Tray<'a> as TrayStore {
     }
 
     fn mark(&mut self, stage: usize, marks: u16) -> Result<usize, EditFault>
-        ensures does { λ r. ⌜ Does (markStep (trayMeaning (now (self .entry))) stage marks) r (trayMeaning (now (self .exit))) ⌝ }
+        ensures does { λ r. ⌜ MarkDone (now (self .entry)) stage marks r (now (self .exit)) ⌝ }
         ensures kept { λ _. ⌜ trayRoom (now (self .exit)) ≡ trayRoom (now (self .entry)) ⌝ }
         ensures stays { λ _. ⌜ SameLoan (now (self .entry)) (now (self .exit)) ⌝ }
     {
@@ -125,7 +124,7 @@ pub impl<'a> Store for Tray<'a> as TrayStore {
     }
 
     fn lay(&mut self, leaves: usize, minutes: u32, enters: usize) -> Result<usize, EditFault>
-        ensures does { λ r. ⌜ Does (layStep (trayRoom (now (self .entry))) (trayMeaning (now (self .entry))) leaves minutes enters) r (trayMeaning (now (self .exit))) ⌝ }
+        ensures does { λ r. ⌜ LayDone (now (self .entry)) leaves minutes enters r (now (self .exit)) ⌝ }
         ensures kept { λ _. ⌜ trayRoom (now (self .exit)) ≡ trayRoom (now (self .entry)) ⌝ }
         ensures stays { λ _. ⌜ SameLoan (now (self .entry)) (now (self .exit)) ⌝ }
     {

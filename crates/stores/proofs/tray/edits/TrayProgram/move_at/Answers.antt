@@ -14,4 +14,5 @@ pub returns-else-k-self : need.returns-else-k-self
 returns-else-k-self c =
     let tray = c .args .self .now in
     let bs = tray .areas .now .moves .items in
-    sym (getD-past (inUse moveLayout (tray .«move_count») bs) _ noMove (omega (arith, length-inUse moveLayout (tray .«move_count») bs)))
+    let n = tray .«move_count» in
+    sym (getD-past (inUse moveLayout n bs) _ noMove (omega (arith, length-inUse moveLayout n bs)))

@@ -36,8 +36,9 @@ pub ghost-self : need.ghost-self
 ghost-self c =
     let tray = c .args .self .now in
     let allowed = c .in-Continue-record .ensures tt in
-    let laid = tray-laid _ _ _ (tray .«stage_area») (tray .«move_area») _ _ _ _ _ (allowed .is) (c .put-move .ensures) in
-    let long = move-put-long _ _ _ _ (c .put-move .ensures) in
+    let put = c .put-move .ensures in
+    let laid = tray-laid _ _ _ (tray .«stage_area») (tray .«move_area») _ _ _ _ _ (allowed .is) put in
+    let long = move-put-long _ _ _ _ put in
     let ends = ends-kept-by-lay _ _ _ _ _ _ allowed (laid .is) (tray .ends) in
     let room = c .move-capacity .ensures in
     (laid .stage-area, (laid .move-area, (omega arith, (omega (arith, room), (ends, tt)))))
@@ -46,8 +47,9 @@ pub returns : need.returns
 returns c =
     let tray = c .args .self .now in
     let allowed = c .in-Continue-record .ensures tt in
-    let laid = tray-laid _ _ _ (tray .«stage_area») (tray .«move_area») _ _ _ _ _ (allowed .is) (c .put-move .ensures) in
-    let long = move-put-long _ _ _ _ (c .put-move .ensures) in
+    let put = c .put-move .ensures in
+    let laid = tray-laid _ _ _ (tray .«stage_area») (tray .«move_area») _ _ _ _ _ (allowed .is) put in
+    let long = move-put-long _ _ _ _ put in
     let n = length-inUse moveLayout (tray .«move_count») (tray .areas .now .moves .items) in
     let room = c .move-capacity .ensures in
     record {

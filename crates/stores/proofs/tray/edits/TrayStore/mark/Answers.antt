@@ -19,8 +19,9 @@ ghost-self c =
     let tray = c .args .self .now in
     let allowed = c .in-Continue-found .ensures tt in
     let below = below-inUse stageLayout (tray .«stage_count») _ (tray .areas .now .stages .items) (allowed .stage) in
-    let marked = tray-marked _ _ _ (tray .«stage_area») (tray .«move_area») _ _ _ _ below (allowed .is) (c .put-stage .ensures) in
-    let long = stage-put-long _ _ _ _ (c .put-stage .ensures) in
+    let put = c .put-stage .ensures in
+    let marked = tray-marked _ _ _ (tray .«stage_area») (tray .«move_area») _ _ _ _ below (allowed .is) put in
+    let long = stage-put-long _ _ _ _ put in
     let ends = ends-kept-by-mark _ _ (c .args .stage) (c .args .marks) (marked .is) (tray .ends) in
     (marked .stage-area, (marked .move-area, (omega arith, (omega arith, (ends, tt)))))
 
@@ -29,8 +30,9 @@ returns c =
     let tray = c .args .self .now in
     let allowed = c .in-Continue-found .ensures tt in
     let below = below-inUse stageLayout (tray .«stage_count») _ (tray .areas .now .stages .items) (allowed .stage) in
-    let marked = tray-marked _ _ _ (tray .«stage_area») (tray .«move_area») _ _ _ _ below (allowed .is) (c .put-stage .ensures) in
-    let long = stage-put-long _ _ _ _ (c .put-stage .ensures) in
+    let put = c .put-stage .ensures in
+    let marked = tray-marked _ _ _ (tray .«stage_area») (tray .«move_area») _ _ _ _ below (allowed .is) put in
+    let long = stage-put-long _ _ _ _ put in
     record {
       does = marks-one _ _ _ _ (allowed .stage) (allowed .shown) (marked .is);
       kept = same-room _ _ long;

@@ -22,8 +22,9 @@ returns-then-n-stage-capacity c =
 pub ghost-self : need.ghost-self
 ghost-self c =
     let tray = c .args .self .now in
-    let opened = tray-opened _ _ _ (tray .«stage_area») (tray .«move_area») _ _ (c .put-stage .ensures) in
-    let long = stage-put-long _ _ _ _ (c .put-stage .ensures) in
+    let put = c .put-stage .ensures in
+    let opened = tray-opened _ _ _ (tray .«stage_area») (tray .«move_area») _ _ put in
+    let long = stage-put-long _ _ _ _ put in
     let ends = ends-kept-by-open _ _ (c .args .marks) (opened .is) (tray .ends) in
     let room = c .stage-capacity .ensures in
     (opened .stage-area, (opened .move-area, (omega (arith, room), (omega arith, (ends, tt)))))
@@ -31,8 +32,9 @@ ghost-self c =
 pub returns : need.returns
 returns c =
     let tray = c .args .self .now in
-    let opened = tray-opened _ _ _ (tray .«stage_area») (tray .«move_area») _ _ (c .put-stage .ensures) in
-    let long = stage-put-long _ _ _ _ (c .put-stage .ensures) in
+    let put = c .put-stage .ensures in
+    let opened = tray-opened _ _ _ (tray .«stage_area») (tray .«move_area») _ _ put in
+    let long = stage-put-long _ _ _ _ put in
     let n = length-inUse stageLayout (tray .«stage_count») (tray .areas .now .stages .items) in
     let room = c .stage-capacity .ensures in
     record {
