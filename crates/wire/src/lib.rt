@@ -7,6 +7,7 @@ use program::Store;
 use std::alloc::AllocError;
 use std::alloc::Global;
 use stores::tray::Tray;
+use stores::tray::areas::Areas;
 use stores::tray::edits::TrayProgram;
 use stores::tray::edits::TrayStore;
 use tally::Longest;
@@ -80,12 +81,16 @@ fn run(
 ) -> Result<usize, AllocError>
     ensures { λ r. ⌜ made r (λ n. n ≤ 32) ⌝ }
 {
-    let mut stage_area = vec![in heap; 0u8; 4096]?;
-    let mut move_area = vec![in heap; 0u8; 32768]?;
+    let stages = vec![in heap; 0u8; 4096]?;
+    let areas_moves = vec![in heap; 0u8; 32768]?;
+    let mut areas = Areas {
+        stages,
+        moves: areas_moves,
+    };
     let mut reached = vec![in heap; Reach::Never; 4096]?;
     let mut shortest = vec![in heap; Shortest::Never; 4096]?;
     let mut longest = vec![in heap; Longest::Never; 4096]?;
-    let mut tray = Tray::new(&mut stage_area, &mut move_area);
+    let mut tray = Tray::new(&mut areas);
     if !load(&mut tray, marks, moves) {
         return Ok(0);
     }

@@ -1,9 +1,9 @@
 use Rattle.std.proofs.shelf.Results.{err-from-errBy}
 use Rattle.wire.proofs.run.Needs as need
 
-pub returns-in-Break-move-area : need.returns-in-Break-move-area
-returns-in-Break-move-area c =
-    let p = err-from-errBy (c .from-residual-in-Break-move-area .result) (c .from-residual-in-Break-move-area .ensures .1) in
+pub returns-in-Break-areas-moves : need.returns-in-Break-areas-moves
+returns-in-Break-areas-moves c =
+    let p = err-from-errBy (c .from-residual-in-Break-areas-moves .result) (c .from-residual-in-Break-areas-moves .ensures .1) in
     rw (p .1) tt
 
 pub returns-in-Break-reached : need.returns-in-Break-reached
