@@ -32,4 +32,4 @@ returns c =
     let n = length-take-le (card .moves .count) (card .moves .records) (omega arith) in
     let h : card .moves .count < length (card .moves .records) = omega arith in
     let laid = card-laid (card .stages .count) _ (card .stages .records) _ _ _ _ _ h (allowed .is) in
-    record { does = allowed-lays cardCaps _ _ _ _ _ _ _ allowed n (c .if-n-ge-CARD-MOVES .left) laid; kept = refl }
+    record { does = allowed-lays cardCaps _ _ _ _ _ _ _ allowed n (omega arith) laid; kept = refl }

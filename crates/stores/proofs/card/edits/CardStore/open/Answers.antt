@@ -23,4 +23,4 @@ returns c =
     let h : card .stages .count < length (card .stages .records) = omega arith in
     let opened = card-opened _ (card .moves .count) _ (card .moves .records) (c .args .marks) h in
     let n = length-take-le (card .stages .count) (card .stages .records) (omega arith) in
-    record { does = opens cardCaps _ _ _ _ n (c .if-n-ge-CARD-STAGES .left) opened; kept = refl }
+    record { does = opens cardCaps _ _ _ _ n (omega arith) opened; kept = refl }
