@@ -1,3 +1,4 @@
 pub mod Meaning
 pub mod Edits
 pub mod Graphs
+pub mod Tidy
