@@ -9,7 +9,8 @@ use native.Mathlib.Omega.{arith}
 use lib.ListN.{length, getD, set, length-append, length-set}
 use lib.Dec.{eqb}
 use Rattle.std.specs.Holes.{removed}
-use Rattle.std.proofs.shelf.Lists.{getD-append-left, getD-push, getD-set-same, getD-set-other, length-take-le, take-more, take-all}
+use Rattle.std.proofs.shelf.Lists.{getD-append-left, getD-push, getD-set-same, getD-set-other}
+use Rattle.std.proofs.shelf.Lists.{length-take-le, take-more, take-all}
 use Rattle.std.proofs.shelf.Edits.{length-removed}
 use Rattle.std.proofs.shelf.Tests.{cases-eq, eqb-true, eq-eqb}
 use Rattle.program.specs.declared.Kind.the-variants.{Open, Silent}
@@ -300,7 +301,7 @@ module _ (p : Prog) (tidy : Tidy p) (si : SilentAt p (lastStage p)) where
         to = join-to;
       }
 
-  -- For a store: the two moves may be looked for in any way; they are two; and the sum of their minutes is a week at most.
+  -- For a store: the two moves may be looked for in any way, they are two, and their minutes are a week at most.
   pub into-is : (x : ℕ) → x < count p → moveAt p x .enters ≡ lastStage p → moveInto p (lastStage p) ≡ x
   into-is x l h = sym (in-alone x l h)
 

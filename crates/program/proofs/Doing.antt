@@ -10,7 +10,8 @@ use Rattle.std.specs.declared.result.Result.the-variants.{Ok}
 use Rattle.program.specs.declared.Stage.{Stage}
 use Rattle.program.specs.declared.Move.{Move}
 use Rattle.program.specs.Meaning.{Prog, stageAt, moveAt, mostMinutes}
-use Rattle.program.specs.Edits.{Caps, Does, isOpen, openStep, markStep, layStep, cutStep, joinStep, withStage, withMarks, withMove, withCut, withJoin, lastStage}
+use Rattle.program.specs.Edits.{Caps, Does, openStep, markStep, layStep, cutStep, joinStep}
+use Rattle.program.specs.Edits.{isOpen, lastStage, withStage, withMarks, withMove, withCut, withJoin}
 
 abbrev prog : List Stage → List Move → Prog
 prog s m = record { stages = s; moves = m }
@@ -24,8 +25,8 @@ opens caps p q m n e h l =
     let t : length (p .stages) < caps .stages = omega arith in
     rw (lt-ltb (length (p .stages)) (caps .stages) t) (record { answers = ap Ok (sym e); leaves = l })
 
-pub marks-one : (p q : Prog) (s m : ℕ) → s < length (p .stages) → isOpen (stageAt p s .kind) ≡ true → q ≡ withMarks p s m
-    → Does (markStep p s m) (Ok s) q
+pub marks-one : (p q : Prog) (s m : ℕ) → s < length (p .stages) → isOpen (stageAt p s .kind) ≡ true
+    → q ≡ withMarks p s m → Does (markStep p s m) (Ok s) q
 marks-one p q s m h o l = rw (lt-ltb s (length (p .stages)) h, o) (record { answers = refl; leaves = l })
 
 pub lays : (caps : Caps) (p q : Prog) (s d t n : ℕ) → s < length (p .stages) → t < length (p .stages)

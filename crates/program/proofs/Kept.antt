@@ -16,9 +16,11 @@ use Rattle.program.specs.declared.Kind.the-variants.{Open, Silent}
 use Rattle.program.specs.declared.Stage.{Stage}
 use Rattle.program.specs.declared.Move.{Move}
 use Rattle.program.specs.declared.EditFault.{EditFault}
-use Rattle.program.specs.declared.EditFault.the-variants.{NoStage, SilentStage, NoMove, TooLong, StagesFull, MovesFull, NothingToJoin}
+use Rattle.program.specs.declared.EditFault.the-variants.{NoStage, SilentStage, NoMove, TooLong, StagesFull}
+use Rattle.program.specs.declared.EditFault.the-variants.{MovesFull, NothingToJoin}
 use Rattle.program.specs.Meaning.{Prog, empty, noStage, noMove, stageAt, moveAt, mostMinutes, Fits}
-use Rattle.program.specs.Edits.{Caps, Out, Does, accepted, refused, isOpen, leads, withStage, withMarks, withMove, withCut, withJoin, lastStage, openStep, markStep, layStep, cutStep, joinStep}
+use Rattle.program.specs.Edits.{Caps, Out, Does, accepted, refused, openStep, markStep, layStep, cutStep, joinStep}
+use Rattle.program.specs.Edits.{isOpen, leads, lastStage, withStage, withMarks, withMove, withCut, withJoin}
 use Rattle.program.specs.Tidy.{OpenAt, SilentAt, JustOne, Way, there, on, Onward, Tidy, StaysTidy}
 use Rattle.program.proofs.Splits.{size, count, not-both, tidy-up, tidy-down}
 use Rattle.program.proofs.Cuts.{cut-splits, join-splits}

@@ -172,7 +172,8 @@ module _ (q p : Prog) (S : Split q p) where
       go w′ (inl i) =
           let w″ : Way p (moveAt p out .enters) c =
           subst (λ x. Way p x c) (ap (λ x. moveAt q x .enters) i ∙ sym (S .out-enters)) w′ in
-          let v : Way p (size q) (moveAt p out .minutes + c) = on out (S .real-out) (S .out-leaves) silent-last w″ refl in
+          let v : Way p (size q) (moveAt p out .minutes + c) =
+          on out (S .real-out) (S .out-leaves) silent-last w″ refl in
           let u : moveAt p (up m) .enters ≡ size q = ap (λ x. moveAt p (up x) .enters) i ∙ S .in-enters in
           let t : moveAt q m .minutes ≡ moveAt q k .minutes = ap (λ x. moveAt q x .minutes) i in
           let t′ : moveAt p (up m) .minutes ≡ moveAt p (up k) .minutes = ap (λ x. moveAt p (up x) .minutes) i in

@@ -12,7 +12,8 @@ use Rattle.program.specs.declared.Kind.{Kind}
 use Rattle.program.specs.declared.Kind.the-variants.{Open, Silent}
 use Rattle.program.specs.declared.Move.{Move}
 use Rattle.program.specs.declared.EditFault.{EditFault}
-use Rattle.program.specs.declared.EditFault.the-variants.{NoStage, SilentStage, NoMove, TooLong, StagesFull, MovesFull, NothingToJoin}
+use Rattle.program.specs.declared.EditFault.the-variants.{NoStage, SilentStage, NoMove, TooLong, StagesFull}
+use Rattle.program.specs.declared.EditFault.the-variants.{MovesFull, NothingToJoin}
 use Rattle.program.specs.Meaning.{Prog, stageAt, moveAt, mostMinutes}
 
 -- How many stages and moves a store has room for.
@@ -48,7 +49,8 @@ withStage p m = record { stages = p .stages ++ (record { marks = m; kind = Open 
 
 -- mark: the marks of a stage are replaced
 abbrev pub withMarks : Prog → ℕ → ℕ → Prog
-withMarks p s m = record { stages = set (p .stages) s (record { marks = m; kind = stageAt p s .kind }); moves = p .moves }
+withMarks p s m =
+    record { stages = set (p .stages) s (record { marks = m; kind = stageAt p s .kind }); moves = p .moves }
 
 -- The move from s to t in d minutes.
 abbrev pub leads : ℕ → ℕ → ℕ → Move
@@ -99,7 +101,9 @@ isOpen Silent = false
 
 abbrev pub openStep : Caps → Prog → ℕ → Out
 openStep caps p m =
-    cond (ltb (length (p .stages)) (caps .stages)) (accepted (length (p .stages)) (withStage p m)) (refused StagesFull p)
+    cond (ltb (length (p .stages)) (caps .stages))
+    (accepted (length (p .stages)) (withStage p m))
+    (refused StagesFull p)
 
 abbrev pub markStep : Prog → ℕ → ℕ → Out
 markStep p s m =
@@ -114,7 +118,9 @@ layStep caps p s d t =
     (cond (isOpen (stageAt p s .kind))
     (cond (isOpen (stageAt p t .kind))
     (cond (leb d mostMinutes)
-    (cond (ltb (length (p .moves)) (caps .moves)) (accepted (length (p .moves)) (withMove p s d t)) (refused MovesFull p))
+    (cond (ltb (length (p .moves)) (caps .moves))
+    (accepted (length (p .moves)) (withMove p s d t))
+    (refused MovesFull p))
     (refused TooLong p))
     (refused SilentStage p))
     (refused SilentStage p))
@@ -126,7 +132,9 @@ cutStep caps p k a =
     cond (ltb k (length (p .moves)))
     (cond (leb a (moveAt p k .minutes))
     (cond (ltb (length (p .stages)) (caps .stages))
-    (cond (ltb (length (p .moves)) (caps .moves)) (accepted (length (p .stages)) (withCut p k a)) (refused MovesFull p))
+    (cond (ltb (length (p .moves)) (caps .moves))
+    (accepted (length (p .stages)) (withCut p k a))
+    (refused MovesFull p))
     (refused StagesFull p))
     (refused TooLong p))
     (refused NoMove p)

@@ -103,8 +103,8 @@ pub trait Program {
         ensures { λ r. ⌜ r ≡ moveAt (meaning (now (self .entry))) k ⌝ };
 }
 
-// A store: a program that can be edited in place. It adds two capacities, fixed when it is made. Each edit promises that
-// it does what its step says, that a tidy program stays tidy, and that the capacities are kept.
+// A store: a program that can be edited in place. It adds two capacities, fixed when it is made. Each edit promises
+// that it does what its step says, that a tidy program stays tidy, and that the capacities are kept.
 pub trait Store: Program {
     ghost room: { Self → Caps };
 
@@ -118,33 +118,48 @@ pub trait Store: Program {
 
     // Appends an open stage, and answers its number.
     fn open(&mut self, marks: u16) -> Result<usize, EditFault>
-        ensures does { λ r. ⌜ Does (openStep (room (now (self .entry))) (Self·Program .meaning (now (self .entry))) marks) r (Self·Program .meaning (now (self .exit))) ⌝ }
-        ensures tidy { λ _. ⌜ StaysTidy (Self·Program .meaning (now (self .entry))) (Self·Program .meaning (now (self .exit))) ⌝ }
+        ensures does { λ r. ⌜ Does
+            (openStep (room (now (self .entry))) (Self·Program .meaning (now (self .entry))) marks) r
+            (Self·Program .meaning (now (self .exit))) ⌝ }
+        ensures tidy { λ _. ⌜ StaysTidy (Self·Program .meaning (now (self .entry)))
+            (Self·Program .meaning (now (self .exit))) ⌝ }
         ensures kept { λ _. ⌜ room (now (self .exit)) ≡ room (now (self .entry)) ⌝ };
 
     // Replaces the marks of an open stage, and answers its number.
     fn mark(&mut self, stage: usize, marks: u16) -> Result<usize, EditFault>
-        ensures does { λ r. ⌜ Does (markStep (Self·Program .meaning (now (self .entry))) stage marks) r (Self·Program .meaning (now (self .exit))) ⌝ }
-        ensures tidy { λ _. ⌜ StaysTidy (Self·Program .meaning (now (self .entry))) (Self·Program .meaning (now (self .exit))) ⌝ }
+        ensures does { λ r. ⌜ Does
+            (markStep (Self·Program .meaning (now (self .entry))) stage marks) r
+            (Self·Program .meaning (now (self .exit))) ⌝ }
+        ensures tidy { λ _. ⌜ StaysTidy (Self·Program .meaning (now (self .entry)))
+            (Self·Program .meaning (now (self .exit))) ⌝ }
         ensures kept { λ _. ⌜ room (now (self .exit)) ≡ room (now (self .entry)) ⌝ };
 
     // Appends a move between open stages, and answers its number.
     fn lay(&mut self, leaves: usize, minutes: u32, enters: usize) -> Result<usize, EditFault>
-        ensures does { λ r. ⌜ Does (layStep (room (now (self .entry))) (Self·Program .meaning (now (self .entry))) leaves minutes enters) r (Self·Program .meaning (now (self .exit))) ⌝ }
-        ensures tidy { λ _. ⌜ StaysTidy (Self·Program .meaning (now (self .entry))) (Self·Program .meaning (now (self .exit))) ⌝ }
+        ensures does { λ r. ⌜ Does
+            (layStep (room (now (self .entry))) (Self·Program .meaning (now (self .entry))) leaves minutes enters) r
+            (Self·Program .meaning (now (self .exit))) ⌝ }
+        ensures tidy { λ _. ⌜ StaysTidy (Self·Program .meaning (now (self .entry)))
+            (Self·Program .meaning (now (self .exit))) ⌝ }
         ensures kept { λ _. ⌜ room (now (self .exit)) ≡ room (now (self .entry)) ⌝ };
 
-    // Makes two moves of move k, through a new silent stage `place` minutes after the move begins, and answers the stage's
-    // number.
+    // Makes two moves of move k, joined by a new silent stage `place` minutes after the move begins, and answers the
+    // new stage's number.
     fn cut(&mut self, k: usize, place: u32) -> Result<usize, EditFault>
-        ensures does { λ r. ⌜ Does (cutStep (room (now (self .entry))) (Self·Program .meaning (now (self .entry))) k place) r (Self·Program .meaning (now (self .exit))) ⌝ }
-        ensures tidy { λ _. ⌜ StaysTidy (Self·Program .meaning (now (self .entry))) (Self·Program .meaning (now (self .exit))) ⌝ }
+        ensures does { λ r. ⌜ Does
+            (cutStep (room (now (self .entry))) (Self·Program .meaning (now (self .entry))) k place) r
+            (Self·Program .meaning (now (self .exit))) ⌝ }
+        ensures tidy { λ _. ⌜ StaysTidy (Self·Program .meaning (now (self .entry)))
+            (Self·Program .meaning (now (self .exit))) ⌝ }
         ensures kept { λ _. ⌜ room (now (self .exit)) ≡ room (now (self .entry)) ⌝ };
 
-    // Makes one move of the two that the last stage, a silent one, joins, and answers the number of the stage taken out.
-    // The step is promised of a tidy program: only there has the stage just two moves, whose minutes add up to a move's.
+    // Makes one move of the two that the last stage, a silent one, joins, and answers the number of the stage taken
+    // out. The step is promised of a tidy program: only there are these just two, and their minutes a move's.
     fn join(&mut self) -> Result<usize, EditFault>
-        ensures does { λ r. ⌜ (Tidy (Self·Program .meaning (now (self .entry))) → Does (joinStep (Self·Program .meaning (now (self .entry)))) r (Self·Program .meaning (now (self .exit)))) ⌝ }
-        ensures tidy { λ _. ⌜ StaysTidy (Self·Program .meaning (now (self .entry))) (Self·Program .meaning (now (self .exit))) ⌝ }
+        ensures does { λ r. ⌜ (Tidy (Self·Program .meaning (now (self .entry)))
+            → Does (joinStep (Self·Program .meaning (now (self .entry)))) r
+            (Self·Program .meaning (now (self .exit)))) ⌝ }
+        ensures tidy { λ _. ⌜ StaysTidy (Self·Program .meaning (now (self .entry)))
+            (Self·Program .meaning (now (self .exit))) ⌝ }
         ensures kept { λ _. ⌜ room (now (self .exit)) ≡ room (now (self .entry)) ⌝ };
 }
