@@ -15,14 +15,15 @@ use Rattle.std.proofs.shelf.Edits.{length-removed}
 use Rattle.std.proofs.shelf.Tests.{cases-eq, eqb-true, eq-eqb}
 use Rattle.program.specs.declared.Kind.the-variants.{Open, Silent}
 use Rattle.program.specs.declared.Move.{Move}
-use Rattle.program.specs.Meaning.{Prog, noStage, noMove, stageAt, moveAt, mostMinutes, Fits}
+use Rattle.program.specs.Meaning.{Prog, noStage, noMove, stageAt, moveAt, mostMinutes}
 use Rattle.program.specs.Edits.{leads, withCut, withJoin, first, moveInto, moveOutOf, lastStage}
 use Rattle.program.specs.Tidy.{OpenAt, SilentAt, JustOne, Way, there, on, Onward, Tidy}
 use Rattle.program.proofs.Splits.{Split, size, count, not-both}
 
 -- Cut
 
-module _ (p : Prog) (ends : (m : ℕ) → m < count p → Fits (size p) (moveAt p m)) (k a : ℕ) (lk : k < count p)
+module _ (p : Prog) (from : (m : ℕ) → m < count p → moveAt p m .leaves < size p)
+    (to : (m : ℕ) → m < count p → moveAt p m .enters < size p) (k a : ℕ) (lk : k < count p)
     (la : a ≤ moveAt p k .minutes) where
   abbrev X : Move
   X = leads (moveAt p k .leaves) a (size p)
@@ -75,8 +76,8 @@ module _ (p : Prog) (ends : (m : ℕ) → m < count p → Fits (size p) (moveAt 
             let e = ap (λ (m : Move). m .minutes) cut-k in
             let f = ap (λ (m : Move). m .minutes) cut-new in
             omega arith;
-        from = λ m l. ends m l .0;
-        to = λ m l. ends m l .1;
+        from = from;
+        to = to;
       }
 
 -- A list without what stands at a place: where its elements stood

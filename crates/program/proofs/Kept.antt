@@ -254,7 +254,9 @@ module _ (p : Prog) where
       cond-both (ltb (count p) (caps .moves)) (accepted (size p) (withCut p k a)) (refused MovesFull p) Keeps
       (λ h′ t.
       tidy-up p (withCut p k a)
-      (cut-splits p (t .ends) k a (ltb-true k (count p) lk) (leb-true a (moveAt p k .minutes) la)) t)
+      (cut-splits p (λ m l. t .ends m l .0) (λ m l. t .ends m l .1) k a (ltb-true k (count p) lk)
+      (leb-true a (moveAt p k .minutes) la))
+      t)
       (λ h′ t. t))
       (λ h t. t))
       (λ la t. t))
