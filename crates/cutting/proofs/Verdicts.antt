@@ -11,7 +11,7 @@ use Rattle.program.specs.Edits.{Caps, Out, accepted, refused, isOpen, withCut, 
 use Rattle.program.specs.Graphs.{graph}
 use Rattle.program.specs.Tidy.{Tidy}
 use Rattle.program.proofs.Cuts.{cut-splits, join-splits}
-use Rattle.program.proofs.Kept.{open-step-tidy, mark-step-tidy, lay-step-tidy, cut-step-tidy, join-step-tidy, joinable}
+use Rattle.program.proofs.Kept.{step-tidy, joinable}
 use Rattle.cutting.specs.Minute.{minute}
 use Rattle.cutting.specs.Theorems.{Agree, Same-verdicts, Edits-tidy}
 use Rattle.cutting.proofs.Alikes.{refined-alike, agree-refl, agree-sym}
@@ -70,11 +70,4 @@ same-verdicts =
     }
 
 pub edits-tidy : Edits-tidy
-edits-tidy =
-    record {
-      opening = λ caps p m. open-step-tidy p caps m;
-      marking = mark-step-tidy;
-      laying = λ caps p s d t. lay-step-tidy p caps s d t;
-      cutting = λ caps p k a. cut-step-tidy p caps k a;
-      joining = join-step-tidy;
-    }
+edits-tidy caps p e = step-tidy p caps e

@@ -8,7 +8,9 @@ use Rattle.tctl.specs.Rules.{Rule}
 use Rattle.tctl.specs.Holds.{Holds}
 use Rattle.tctl.specs.Refine.{Refines}
 use Rattle.program.specs.Meaning.{Prog, moveAt}
-use Rattle.program.specs.Edits.{Caps, withCut, withJoin, lastStage, openStep, markStep, layStep, cutStep, joinStep}
+use Rattle.program.specs.declared.edit.Edit.{Edit}
+use Rattle.program.specs.Edits.{Caps, withCut, withJoin, lastStage, cutStep, joinStep}
+use Rattle.program.specs.Steps.{step}
 use Rattle.program.specs.Graphs.{graph}
 use Rattle.program.specs.Tidy.{Tidy, SilentAt}
 use Rattle.cutting.specs.Minute.{minute}
@@ -47,9 +49,5 @@ pub record Same-verdicts : Type 0 where
   pub by-the-minute : (p : Prog) → Tidy p → Agree (graph p) (minute (graph p))
 
 -- Each edit keeps a program tidy.
-pub record Edits-tidy : Type 0 where
-  pub opening : (caps : Caps) (p : Prog) (marks : ℕ) → Tidy p → Tidy (openStep caps p marks .after)
-  pub marking : (p : Prog) (s marks : ℕ) → Tidy p → Tidy (markStep p s marks .after)
-  pub laying : (caps : Caps) (p : Prog) (s d t : ℕ) → Tidy p → Tidy (layStep caps p s d t .after)
-  pub cutting : (caps : Caps) (p : Prog) (k a : ℕ) → Tidy p → Tidy (cutStep caps p k a .after)
-  pub joining : (p : Prog) → Tidy p → Tidy (joinStep p .after)
+abbrev pub Edits-tidy : Type 0
+Edits-tidy = (caps : Caps) (p : Prog) (e : Edit) → Tidy p → Tidy (step caps p e .after)

@@ -18,9 +18,12 @@ use Rattle.program.specs.declared.Move.{Move}
 use Rattle.program.specs.declared.EditFault.{EditFault}
 use Rattle.program.specs.declared.EditFault.the-variants.{NoStage, SilentStage, NoMove, TooLong, StagesFull}
 use Rattle.program.specs.declared.EditFault.the-variants.{MovesFull, NothingToJoin}
+use Rattle.program.specs.declared.edit.Edit.{Edit}
+use Rattle.program.specs.declared.edit.Edit.the-variants as edit
 use Rattle.program.specs.Meaning.{Prog, empty, noStage, noMove, stageAt, moveAt, mostMinutes, Fits}
 use Rattle.program.specs.Edits.{Caps, Out, Does, accepted, refused, openStep, markStep, layStep, cutStep, joinStep}
 use Rattle.program.specs.Edits.{isOpen, leads, lastStage, withStage, withMarks, withMove, withCut, withJoin}
+use Rattle.program.specs.Steps.{step}
 use Rattle.program.specs.Tidy.{OpenAt, SilentAt, JustOne, Way, there, on, Onward, Tidy, StaysTidy}
 use Rattle.program.proofs.Splits.{size, count, not-both, tidy-up, tidy-down}
 use Rattle.program.proofs.Cuts.{cut-splits, join-splits}
@@ -206,12 +209,12 @@ module _ (p : Prog) where
   abbrev Keeps : Out → Type 0
   Keeps o = StaysTidy p (o .after)
 
-  pub open-step-tidy : (caps : Caps) (m : ℕ) → Keeps (openStep caps p m)
+  open-step-tidy : (caps : Caps) (m : ℕ) → Keeps (openStep caps p m)
   open-step-tidy caps m =
       cond-both (ltb (size p) (caps .stages)) (accepted (size p) (withStage p m)) (refused StagesFull p) Keeps
       (λ e t. tidy-kept p (withStage p m) (opened-grown p m) t) (λ e t. t)
 
-  pub mark-step-tidy : (s m : ℕ) → Keeps (markStep p s m)
+  mark-step-tidy : (s m : ℕ) → Keeps (markStep p s m)
   mark-step-tidy s m =
       cond-both (ltb s (size p)) _ (refused NoStage p) Keeps
       (λ e.
@@ -219,7 +222,7 @@ module _ (p : Prog) where
       (λ o t. tidy-kept p (withMarks p s m) (remarked-grown p s m (ltb-true s (size p) e)) t) (λ o t. t))
       (λ e t. t)
 
-  pub lay-step-tidy : (caps : Caps) (s d u : ℕ) → Keeps (layStep caps p s d u)
+  lay-step-tidy : (caps : Caps) (s d u : ℕ) → Keeps (layStep caps p s d u)
   lay-step-tidy caps s d u =
       cond-both (ltb s (size p)) _ (refused NoStage p) Keeps
       (λ ls.
@@ -243,7 +246,7 @@ module _ (p : Prog) where
       (λ lu t. t))
       (λ ls t. t)
 
-  pub cut-step-tidy : (caps : Caps) (k a : ℕ) → Keeps (cutStep caps p k a)
+  cut-step-tidy : (caps : Caps) (k a : ℕ) → Keeps (cutStep caps p k a)
   cut-step-tidy caps k a =
       cond-both (ltb k (count p)) _ (refused NoMove p) Keeps
       (λ lk.
@@ -266,7 +269,7 @@ module _ (p : Prog) where
   joinable some hushed =
       let l = ltb-true 0 (size p) some in (omega arith, silent-from (stageAt p (lastStage p) .kind) hushed)
 
-  pub join-step-tidy : Keeps (joinStep p)
+  join-step-tidy : Keeps (joinStep p)
   join-step-tidy =
       cond-both (ltb 0 (size p)) _ (refused NothingToJoin p) Keeps
       (λ some.
@@ -276,28 +279,17 @@ module _ (p : Prog) where
       (λ hushed t. tidy-down (withJoin p) p (join-splits p t (joinable some hushed)) t))
       (λ none t. t)
 
--- What an implementation answers for the clause `tidy`, from the clause `does`.
+  pub step-tidy : (caps : Caps) (e : Edit) → Keeps (step caps p e)
+  step-tidy caps (edit.Open m) = open-step-tidy caps m
+  step-tidy caps (edit.Mark s m) = mark-step-tidy s m
+  step-tidy caps (edit.Lay s d u) = lay-step-tidy caps s d u
+  step-tidy caps (edit.Cut k a) = cut-step-tidy caps k a
+  step-tidy caps edit.Join = join-step-tidy
 
-does-tidy : (p q : Prog) (o : Out) (r : Result ℕ EditFault) → StaysTidy p (o .after) → Does o r q → StaysTidy p q
-does-tidy p q o r keeps does t = subst (λ (x : Prog). Tidy x) (sym (does .leaves)) (keeps t)
-
-pub open-tidy : (caps : Caps) (p q : Prog) (m : ℕ) (r : Result ℕ EditFault) → Does (openStep caps p m) r q
+-- What an implementation answers for the clause `tidy` of an edit, from its clause `does`.
+pub does-tidy : (caps : Caps) (p q : Prog) (e : Edit) (r : Result ℕ EditFault) → (Tidy p → Does (step caps p e) r q)
     → StaysTidy p q
-open-tidy caps p q m r = does-tidy p q (openStep caps p m) r (open-step-tidy p caps m)
-
-pub mark-tidy : (p q : Prog) (s m : ℕ) (r : Result ℕ EditFault) → Does (markStep p s m) r q → StaysTidy p q
-mark-tidy p q s m r = does-tidy p q (markStep p s m) r (mark-step-tidy p s m)
-
-pub lay-tidy : (caps : Caps) (p q : Prog) (s d t : ℕ) (r : Result ℕ EditFault) → Does (layStep caps p s d t) r q
-    → StaysTidy p q
-lay-tidy caps p q s d t r = does-tidy p q (layStep caps p s d t) r (lay-step-tidy p caps s d t)
-
-pub cut-tidy : (caps : Caps) (p q : Prog) (k a : ℕ) (r : Result ℕ EditFault) → Does (cutStep caps p k a) r q
-    → StaysTidy p q
-cut-tidy caps p q k a r = does-tidy p q (cutStep caps p k a) r (cut-step-tidy p caps k a)
-
-pub join-tidy : (p q : Prog) (r : Result ℕ EditFault) → (Tidy p → Does (joinStep p) r q) → StaysTidy p q
-join-tidy p q r does t = does-tidy p q (joinStep p) r (join-step-tidy p) (does t) t
+does-tidy caps p q e r does t = subst (λ (x : Prog). Tidy x) (sym (does t .leaves)) (step-tidy p caps e t)
 
 pub empty-tidy : Tidy empty
 empty-tidy =

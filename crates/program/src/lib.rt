@@ -7,6 +7,8 @@ ghost use Rattle.program.specs.Meaning.{Prog, Limits, stageAt, moveAt, mostSta
 ghost use Rattle.program.specs.Edits.{Caps, Does, openStep, markStep, layStep, cutStep, joinStep, faultNumber};
 ghost use Rattle.program.specs.Tidy.{Tidy, StaysTidy};
 
+pub mod edit;
+
 // The most stages and moves of a program, and the most minutes of a move (a week).
 pub const MOST_STAGES: usize = 1024;
 
