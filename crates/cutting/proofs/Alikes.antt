@@ -13,7 +13,7 @@ use Rattle.tctl.proofs.Common.{open-fits}
 use Rattle.cutting.specs.Theorems.{Alike, Agree, Refined-alike}
 
 -- a rule holds at open stages only
-holds-open : (g : Graph) (f : Rule) (s : ℕ) → Holds g f s → Open g s
+pub holds-open : (g : Graph) (f : Rule) (s : ℕ) → Holds g f s → Open g s
 holds-open g one s t = t
 holds-open g (letter a) s t = t .0
 holds-open g (not f) s t = t .0

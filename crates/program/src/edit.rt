@@ -39,22 +39,14 @@ impl Edit {
         ensures kept { λ _. ⌜ room (now (store .exit)) ≡ room (now (store .entry)) ⌝ }
     {
         match self {
-            Edit::Open {
-                marks,
-            } => store.open(marks),
-            Edit::Mark {
-                stage,
-                marks,
-            } => store.mark(stage, marks),
+            Edit::Open { marks } => store.open(marks),
+            Edit::Mark { stage, marks } => store.mark(stage, marks),
             Edit::Lay {
                 leaves,
                 minutes,
                 enters,
             } => store.lay(leaves, minutes, enters),
-            Edit::Cut {
-                k,
-                place,
-            } => store.cut(k, place),
+            Edit::Cut { k, place } => store.cut(k, place),
             Edit::Join => store.join(),
         }
     }
