@@ -29,7 +29,7 @@ refined-alike g h ok R f s = go (cases-lt s (size g))
     go (inl l) = refinement-keeps g h ok R f s l
     go (inr l) = (
       (λ t. let u = open-fits g s (holds-open g f s t) in absurd (omega arith)),
-      (λ t. absurd (R .silent s l (holds-open h f s t))),
+      (λ t. absurd (R .chains .silent s l (holds-open h f s t))),
     )
 
 pub agree-refl : (g : Graph) → Agree g g

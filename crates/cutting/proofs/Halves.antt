@@ -177,31 +177,34 @@ module _ (q p : Prog) (S : Split q p) where
   pub split-refines : Refines (graph q) (graph p)
   split-refines =
       record {
-        extra = timedStage (S .extra) ∷ [];
-        stages = graph-stages;
-        silent = λ s l o.
-            let h = open-fits H s o in
-            let e = split-size q p S in
-            let n = graph-size q in
-            let n′ = graph-size p in
-            last-shut (subst (λ x. timed.Open H x) (let z : s ≡ timed.size G = omega arith in z) o);
-        chain = chain;
-        some = λ m l. links-some (eqb m k) m;
-        real = λ m i lm l. links-into (getD (chain m) i 0) (links-real (eqb m k) m i (real m lm) l);
-        first = λ m l.
-            graph-leaves p (getD (chain m) 0 0) ∙ ap (λ x. moveAt p x .leaves) (links-first (eqb m k) m)
-            ∙ leaves-up q p S m (real m l) ∙ sym (graph-leaves q m);
-        last = λ m i lm l.
-            graph-enters p (getD (chain m) i 0) ∙ links-last (eqb m k) m i refl (real m lm) l ∙ sym (graph-enters q m);
-        minutes = λ m l. links-minutes (eqb m k) m refl (real m l) ∙ sym (graph-minutes q m);
-        through = λ m i lm l.
-            let e = links-enters (eqb m k) m i refl l in
-            let h = graph-enters p (getD (chain m) i 0) in
-            let n = graph-size q in
-            omega arith;
-        joined = λ m i lm l.
-            graph-leaves p (getD (chain m) (suc i) 0) ∙ links-leaves (eqb m k) m i l
-            ∙ sym (links-enters (eqb m k) m i refl l) ∙ sym (graph-enters p (getD (chain m) i 0));
+        chains =
+            record {
+              extra = timedStage (S .extra) ∷ [];
+              stages = graph-stages;
+              silent = λ s l o.
+                  let h = open-fits H s o in
+                  let e = split-size q p S in
+                  let n = graph-size q in
+                  let n′ = graph-size p in
+                  last-shut (subst (λ x. timed.Open H x) (let z : s ≡ timed.size G = omega arith in z) o);
+              chain = chain;
+              some = λ m l. links-some (eqb m k) m;
+              real = λ m i lm l. links-into (getD (chain m) i 0) (links-real (eqb m k) m i (real m lm) l);
+              first = λ m l.
+                  graph-leaves p (getD (chain m) 0 0) ∙ ap (λ x. moveAt p x .leaves) (links-first (eqb m k) m)
+                  ∙ leaves-up q p S m (real m l) ∙ sym (graph-leaves q m);
+              last = λ m i lm l.
+                  graph-enters p (getD (chain m) i 0) ∙ links-last (eqb m k) m i refl (real m lm) l ∙ sym (graph-enters q m);
+              minutes = λ m l. links-minutes (eqb m k) m refl (real m l) ∙ sym (graph-minutes q m);
+              through = λ m i lm l.
+                  let e = links-enters (eqb m k) m i refl l in
+                  let h = graph-enters p (getD (chain m) i 0) in
+                  let n = graph-size q in
+                  omega arith;
+              joined = λ m i lm l.
+                  graph-leaves p (getD (chain m) (suc i) 0) ∙ links-leaves (eqb m k) m i l
+                  ∙ sym (links-enters (eqb m k) m i refl l) ∙ sym (graph-enters p (getD (chain m) i 0));
+            };
         all = λ a l.
             let c = graph-count p in
             let c′ = graph-count q in

@@ -274,39 +274,42 @@ module _ (p : Graph) (ok : Ends p) where
   minute-of : Refines p q
   minute-of =
       record {
-        extra = replicate (hidden ms) silent-one;
-        stages = refl;
-        silent = minute-silent;
-        chain = chain;
-        some = λ m l. let e = len m in let h = many-some (at ms m .minutes) in omega arith;
-        real = λ m k lm lk.
-            let e = len m in
-            let h : k < long ms m = omega arith in
-            subst (λ x. x < count q) (sym (row-at (start ms m) (long ms m) k h)) (made-real ms (size p) m k lm h);
-        first = λ m lm.
-            let e = len m in
-            let h = many-some (at ms m .minutes) in
-            ap (λ (x : Move). x .leaves) (chain-at m 0 lm (omega arith))
-            ∙ B-first (at ms m .minutes) (at ms m .leaves) (fresh ms (size p) m) (at ms m .enters);
-        last = λ m k lm lk.
-            ap (λ (x : Move). x .enters) (chain-at m k lm (omega arith))
-            ∙ B-last (at ms m .minutes) (at ms m .leaves) (fresh ms (size p) m) (at ms m .enters) k (lk ∙ len m);
-        minutes = λ m lm.
-            row-span q (at ms m .minutes) (at ms m .leaves) (fresh ms (size p) m) (at ms m .enters) (start ms m) (λ k lk. made-at ms (size p) m k lm lk);
-        through = λ m k lm lk.
-            let e = len m in
-            let u : moveAt q (getD (chain m) k 0) .enters ≡ fresh ms (size p) m + k =
-            ap (λ (x : Move). x .enters) (chain-at m k lm (omega arith))
-            ∙ B-enters (at ms m .minutes) (at ms m .leaves) (fresh ms (size p) m) (at ms m .enters) k (omega arith) in
-            let v = fresh-from ms (size p) m in
-            omega arith;
-        joined = λ m k lm lk.
-            let e = len m in
-            ap (λ (x : Move). x .leaves) (chain-at m (suc k) lm lk)
-            ∙ B-leaves (at ms m .minutes) (at ms m .leaves) (fresh ms (size p) m) (at ms m .enters) k (omega arith)
-            ∙ sym
-            (ap (λ (x : Move). x .enters) (chain-at m k lm (omega arith))
-            ∙ B-enters (at ms m .minutes) (at ms m .leaves) (fresh ms (size p) m) (at ms m .enters) k (omega arith));
+        chains =
+            record {
+              extra = replicate (hidden ms) silent-one;
+              stages = refl;
+              silent = minute-silent;
+              chain = chain;
+              some = λ m l. let e = len m in let h = many-some (at ms m .minutes) in omega arith;
+              real = λ m k lm lk.
+                  let e = len m in
+                  let h : k < long ms m = omega arith in
+                  subst (λ x. x < count q) (sym (row-at (start ms m) (long ms m) k h)) (made-real ms (size p) m k lm h);
+              first = λ m lm.
+                  let e = len m in
+                  let h = many-some (at ms m .minutes) in
+                  ap (λ (x : Move). x .leaves) (chain-at m 0 lm (omega arith))
+                  ∙ B-first (at ms m .minutes) (at ms m .leaves) (fresh ms (size p) m) (at ms m .enters);
+              last = λ m k lm lk.
+                  ap (λ (x : Move). x .enters) (chain-at m k lm (omega arith))
+                  ∙ B-last (at ms m .minutes) (at ms m .leaves) (fresh ms (size p) m) (at ms m .enters) k (lk ∙ len m);
+              minutes = λ m lm.
+                  row-span q (at ms m .minutes) (at ms m .leaves) (fresh ms (size p) m) (at ms m .enters) (start ms m) (λ k lk. made-at ms (size p) m k lm lk);
+              through = λ m k lm lk.
+                  let e = len m in
+                  let u : moveAt q (getD (chain m) k 0) .enters ≡ fresh ms (size p) m + k =
+                  ap (λ (x : Move). x .enters) (chain-at m k lm (omega arith))
+                  ∙ B-enters (at ms m .minutes) (at ms m .leaves) (fresh ms (size p) m) (at ms m .enters) k (omega arith) in
+                  let v = fresh-from ms (size p) m in
+                  omega arith;
+              joined = λ m k lm lk.
+                  let e = len m in
+                  ap (λ (x : Move). x .leaves) (chain-at m (suc k) lm lk)
+                  ∙ B-leaves (at ms m .minutes) (at ms m .leaves) (fresh ms (size p) m) (at ms m .enters) k (omega arith)
+                  ∙ sym
+                  (ap (λ (x : Move). x .enters) (chain-at m k lm (omega arith))
+                  ∙ B-enters (at ms m .minutes) (at ms m .leaves) (fresh ms (size p) m) (at ms m .enters) k (omega arith));
+            };
         all = λ a l.
             let o = found ms (size p) a l in
             let e = len (o .0) in (

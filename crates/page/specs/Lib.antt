@@ -1,0 +1,6 @@
+pub mod Reading
+pub mod Numbers
+pub mod Letters
+pub mod Splits
+pub mod Lines
+pub mod Pages
