@@ -194,7 +194,8 @@ module _ (q p : Prog) (S : Split q p) where
                   graph-leaves p (getD (chain m) 0 0) ∙ ap (λ x. moveAt p x .leaves) (links-first (eqb m k) m)
                   ∙ leaves-up q p S m (real m l) ∙ sym (graph-leaves q m);
               last = λ m i lm l.
-                  graph-enters p (getD (chain m) i 0) ∙ links-last (eqb m k) m i refl (real m lm) l ∙ sym (graph-enters q m);
+                  graph-enters p (getD (chain m) i 0) ∙ links-last (eqb m k) m i refl (real m lm) l
+                  ∙ sym (graph-enters q m);
               minutes = λ m l. links-minutes (eqb m k) m refl (real m l) ∙ sym (graph-minutes q m);
               through = λ m i lm l.
                   let e = links-enters (eqb m k) m i refl l in

@@ -1,4 +1,4 @@
--- The minute program refines the program.
+-- The minute program refines the program, and may be checked exactly if the program may.
 use mathlib.Core.Path.{_≡_, refl, sym, _∙_, ap, subst}
 use mathlib.Core.List.{List, [], _∷_, _++_}
 use mathlib.Core.Bool.{Bool, true, false}
@@ -14,11 +14,11 @@ use Rattle.tctl.specs.Graph.{Graph, Stage, Move, Open, size, count, moveAt}
 use Rattle.tctl.specs.Runs.{Ends, Sound}
 use Rattle.tctl.specs.Refine.{Refines, span}
 use Rattle.tctl.proofs.Refined.{sound-up, sound-down}
-use Rattle.cutting.specs.Minute.{minutes-through, by-minutes, minute-moves, hidden, silent-one, minute}
+use Rattle.cutting.specs.Minute.{leads, minutes-through, by-minutes, minute-moves, hidden, silent-one, minute}
 use Rattle.cutting.specs.Theorems.{Minute-refines}
 
 abbrev at : List Move → ℕ → Move
-at ms k = getD ms k (record { leaves = 0; minutes = 0; enters = 0 })
+at ms k = getD ms k (leads 0 0 0)
 
 -- One move
 
@@ -34,53 +34,56 @@ many-less : (d k : ℕ) → suc k < many d → k < d - 1
 many-less zero k l = absurd (omega arith)
 many-less (suc d) k l = omega arith
 
-M-length : (d s n t : ℕ) → length (minutes-through d s n t) ≡ suc d
-M-length zero s n t = refl
-M-length (suc d) s n t = ap suc (M-length d n (suc n) t)
+through-length : (d s n t : ℕ) → length (minutes-through d s n t) ≡ suc d
+through-length zero s n t = refl
+through-length (suc d) s n t = ap suc (through-length d n (suc n) t)
 
-M-first : (d s n t : ℕ) → at (minutes-through d s n t) 0 .leaves ≡ s
-M-first zero s n t = refl
-M-first (suc d) s n t = refl
+through-first : (d s n t : ℕ) → at (minutes-through d s n t) 0 .leaves ≡ s
+through-first zero s n t = refl
+through-first (suc d) s n t = refl
 
-M-last : (d s n t : ℕ) → at (minutes-through d s n t) d .enters ≡ t
-M-last zero s n t = refl
-M-last (suc d) s n t = M-last d n (suc n) t
+through-last : (d s n t : ℕ) → at (minutes-through d s n t) d .enters ≡ t
+through-last zero s n t = refl
+through-last (suc d) s n t = through-last d n (suc n) t
 
-M-enters : (d s n t k : ℕ) → k < d → at (minutes-through d s n t) k .enters ≡ n + k
-M-enters zero s n t k l = absurd (not-suc-le-zero l)
-M-enters (suc d) s n t zero l = sym (add-zero n)
-M-enters (suc d) s n t (suc k) l = M-enters d n (suc n) t k (omega arith) ∙ (suc-add n k ∙ sym (add-suc n k))
+through-enters : (d s n t k : ℕ) → k < d → at (minutes-through d s n t) k .enters ≡ n + k
+through-enters zero s n t k l = absurd (not-suc-le-zero l)
+through-enters (suc d) s n t zero l = sym (add-zero n)
+through-enters (suc d) s n t (suc k) l =
+    through-enters d n (suc n) t k (omega arith) ∙ (suc-add n k ∙ sym (add-suc n k))
 
-M-leaves : (d s n t k : ℕ) → k < d → at (minutes-through d s n t) (suc k) .leaves ≡ n + k
-M-leaves zero s n t k l = absurd (not-suc-le-zero l)
-M-leaves (suc d) s n t zero l = M-first d n (suc n) t ∙ sym (add-zero n)
-M-leaves (suc d) s n t (suc k) l = M-leaves d n (suc n) t k (omega arith) ∙ (suc-add n k ∙ sym (add-suc n k))
+through-leaves : (d s n t k : ℕ) → k < d → at (minutes-through d s n t) (suc k) .leaves ≡ n + k
+through-leaves zero s n t k l = absurd (not-suc-le-zero l)
+through-leaves (suc d) s n t zero l = through-first d n (suc n) t ∙ sym (add-zero n)
+through-leaves (suc d) s n t (suc k) l =
+    through-leaves d n (suc n) t k (omega arith) ∙ (suc-add n k ∙ sym (add-suc n k))
 
-M-minutes : (d s n t k : ℕ) → k < suc d → at (minutes-through d s n t) k .minutes ≡ 1
-M-minutes zero s n t zero l = refl
-M-minutes zero s n t (suc k) l = absurd (omega arith)
-M-minutes (suc d) s n t zero l = refl
-M-minutes (suc d) s n t (suc k) l = M-minutes d n (suc n) t k (omega arith)
+through-minutes : (d s n t k : ℕ) → k < suc d → at (minutes-through d s n t) k .minutes ≡ 1
+through-minutes zero s n t zero l = refl
+through-minutes zero s n t (suc k) l = absurd (omega arith)
+through-minutes (suc d) s n t zero l = refl
+through-minutes (suc d) s n t (suc k) l = through-minutes d n (suc n) t k (omega arith)
 
-B-length : (d s n t : ℕ) → length (by-minutes d s n t) ≡ many d
-B-length zero s n t = refl
-B-length (suc d) s n t = M-length d s n t
+by-length : (d s n t : ℕ) → length (by-minutes d s n t) ≡ many d
+by-length zero s n t = refl
+by-length (suc d) s n t = through-length d s n t
 
-B-first : (d s n t : ℕ) → at (by-minutes d s n t) 0 .leaves ≡ s
-B-first zero s n t = refl
-B-first (suc d) s n t = M-first d s n t
+by-first : (d s n t : ℕ) → at (by-minutes d s n t) 0 .leaves ≡ s
+by-first zero s n t = refl
+by-first (suc d) s n t = through-first d s n t
 
-B-last : (d s n t k : ℕ) → suc k ≡ many d → at (by-minutes d s n t) k .enters ≡ t
-B-last zero s n t k e = subst (λ x. at (by-minutes zero s n t) x .enters ≡ t) (let z : 0 ≡ k = omega arith in z) refl
-B-last (suc d) s n t k e = subst (λ x. at (minutes-through d s n t) x .enters ≡ t) (let z : d ≡ k = omega arith in z) (M-last d s n t)
+by-last : (d s n t k : ℕ) → suc k ≡ many d → at (by-minutes d s n t) k .enters ≡ t
+by-last zero s n t k e = subst (λ x. at (by-minutes zero s n t) x .enters ≡ t) (let z : 0 ≡ k = omega arith in z) refl
+by-last (suc d) s n t k e =
+    subst (λ x. at (minutes-through d s n t) x .enters ≡ t) (let z : d ≡ k = omega arith in z) (through-last d s n t)
 
-B-enters : (d s n t k : ℕ) → suc k < many d → at (by-minutes d s n t) k .enters ≡ n + k
-B-enters zero s n t k l = absurd (omega arith)
-B-enters (suc d) s n t k l = M-enters d s n t k (omega arith)
+by-enters : (d s n t k : ℕ) → suc k < many d → at (by-minutes d s n t) k .enters ≡ n + k
+by-enters zero s n t k l = absurd (omega arith)
+by-enters (suc d) s n t k l = through-enters d s n t k (omega arith)
 
-B-leaves : (d s n t k : ℕ) → suc k < many d → at (by-minutes d s n t) (suc k) .leaves ≡ n + k
-B-leaves zero s n t k l = absurd (omega arith)
-B-leaves (suc d) s n t k l = M-leaves d s n t k (omega arith)
+by-leaves : (d s n t k : ℕ) → suc k < many d → at (by-minutes d s n t) (suc k) .leaves ≡ n + k
+by-leaves zero s n t k l = absurd (omega arith)
+by-leaves (suc d) s n t k l = through-leaves d s n t k (omega arith)
 
 -- The list of moves
 
@@ -99,33 +102,43 @@ fresh (x ∷ ms) n (suc m) = fresh ms (n + (x .minutes - 1)) m
 abbrev long : List Move → ℕ → ℕ
 long ms m = many (at ms m .minutes)
 
-abbrev made : List Move → ℕ → ℕ → List Move
-made ms n m = by-minutes (at ms m .minutes) (at ms m .leaves) (fresh ms n m) (at ms m .enters)
+-- what a move is made by, from a new stage on
+abbrev pieces : Move → ℕ → List Move
+pieces x n = by-minutes (x .minutes) (x .leaves) n (x .enters)
 
-made-at : (ms : List Move) (n m k : ℕ) → m < length ms → k < long ms m → at (minute-moves ms n) (start ms m + k) ≡ at (made ms n m) k
+abbrev made : List Move → ℕ → ℕ → List Move
+made ms n m = pieces (at ms m) (fresh ms n m)
+
+pieces-length : (x : Move) (n : ℕ) → length (pieces x n) ≡ many (x .minutes)
+pieces-length x n = by-length (x .minutes) (x .leaves) n (x .enters)
+
+-- how many moves there are
+moves-length : (x : Move) (ms : List Move) (n : ℕ)
+    → length (minute-moves (x ∷ ms) n) ≡ many (x .minutes) + length (minute-moves ms (n + (x .minutes - 1)))
+moves-length x ms n =
+    length-append (pieces x n) (minute-moves ms (n + (x .minutes - 1)))
+    ∙ ap (λ y. y + length (minute-moves ms (n + (x .minutes - 1)))) (pieces-length x n)
+
+made-at : (ms : List Move) (n m k : ℕ) → m < length ms → k < long ms m
+    → at (minute-moves ms n) (start ms m + k) ≡ at (made ms n m) k
 made-at [] n m k l lk = absurd (not-suc-le-zero l)
 made-at (x ∷ ms) n zero k l lk =
-    let b = B-length (x .minutes) (x .leaves) n (x .enters) in
-    let h : k < length (by-minutes (x .minutes) (x .leaves) n (x .enters)) = omega arith in
+    let b = pieces-length x n in
+    let h : k < length (pieces x n) = omega arith in
     ap (at (minute-moves (x ∷ ms) n)) (zero-add k)
-    ∙ getD-append-left (by-minutes (x .minutes) (x .leaves) n (x .enters)) (minute-moves ms (n + (x .minutes - 1))) (record { leaves = 0; minutes = 0; enters = 0 }) k h
+    ∙ getD-append-left (pieces x n) (minute-moves ms (n + (x .minutes - 1))) (leads 0 0 0) k h
 made-at (x ∷ ms) n (suc m) k l lk =
-    let B = by-minutes (x .minutes) (x .leaves) n (x .enters) in
-    let b = B-length (x .minutes) (x .leaves) n (x .enters) in
-    let e : (many (x .minutes) + start ms m) + k ≡ length B + (start ms m + k) = omega arith in
+    let b = pieces-length x n in
+    let e : (many (x .minutes) + start ms m) + k ≡ length (pieces x n) + (start ms m + k) = omega arith in
     ap (at (minute-moves (x ∷ ms) n)) e
-    ∙ getD-append-add B (minute-moves ms (n + (x .minutes - 1))) (start ms m + k) (record { leaves = 0; minutes = 0; enters = 0 })
+    ∙ getD-append-add (pieces x n) (minute-moves ms (n + (x .minutes - 1))) (start ms m + k) (leads 0 0 0)
     ∙ made-at ms (n + (x .minutes - 1)) m k (omega arith) lk
 
 made-real : (ms : List Move) (n m k : ℕ) → m < length ms → k < long ms m → start ms m + k < length (minute-moves ms n)
 made-real [] n m k l lk = absurd (not-suc-le-zero l)
-made-real (x ∷ ms) n zero k l lk =
-    let b = B-length (x .minutes) (x .leaves) n (x .enters) in
-    let c = length-append (by-minutes (x .minutes) (x .leaves) n (x .enters)) (minute-moves ms (n + (x .minutes - 1))) in
-    omega arith
+made-real (x ∷ ms) n zero k l lk = let c = moves-length x ms n in omega arith
 made-real (x ∷ ms) n (suc m) k l lk =
-    let b = B-length (x .minutes) (x .leaves) n (x .enters) in
-    let c = length-append (by-minutes (x .minutes) (x .leaves) n (x .enters)) (minute-moves ms (n + (x .minutes - 1))) in
+    let c = moves-length x ms n in
     let ih = made-real ms (n + (x .minutes - 1)) m k (omega arith) lk in
     omega arith
 
@@ -141,8 +154,7 @@ found (x ∷ ms) n a l = go (cases-lt a (many (x .minutes))) (found ms (n + (x .
         → Found (x ∷ ms) a
     go (inl h) again = (0, a, omega arith, h, omega arith)
     go (inr h) again =
-        let b = B-length (x .minutes) (x .leaves) n (x .enters) in
-        let c = length-append (by-minutes (x .minutes) (x .leaves) n (x .enters)) (minute-moves ms (n + (x .minutes - 1))) in
+        let c = moves-length x ms n in
         let o = again (omega arith) in
         (suc (o .0), o .1, omega (arith, o .2), o .3, omega (arith, o .4))
 
@@ -151,7 +163,8 @@ fresh-from [] n m = omega arith
 fresh-from (x ∷ ms) n zero = omega arith
 fresh-from (x ∷ ms) n (suc m) = let h = fresh-from ms (n + (x .minutes - 1)) m in omega arith
 
-fresh-mono : (ms : List Move) (n m m′ : ℕ) → m < m′ → m′ < length ms → fresh ms n m + (at ms m .minutes - 1) ≤ fresh ms n m′
+fresh-mono : (ms : List Move) (n m m′ : ℕ) → m < m′ → m′ < length ms
+    → fresh ms n m + (at ms m .minutes - 1) ≤ fresh ms n m′
 fresh-mono [] n m m′ l l′ = absurd (not-suc-le-zero l′)
 fresh-mono (x ∷ ms) n zero zero l l′ = absurd (not-suc-le-zero l)
 fresh-mono (x ∷ ms) n zero (suc m′) l l′ = fresh-from ms (n + (x .minutes - 1)) m′
@@ -172,7 +185,8 @@ owned [] n s l h = absurd (omega arith)
 owned (x ∷ ms) n s l h = go (cases-lt s (n + (x .minutes - 1))) (owned ms (n + (x .minutes - 1)) s)
   where
     go : (s < n + (x .minutes - 1)) ⊎ (n + (x .minutes - 1) ≤ s)
-        → (n + (x .minutes - 1) ≤ s → s < (n + (x .minutes - 1)) + hidden ms → Owned ms (n + (x .minutes - 1)) s) → Owned (x ∷ ms) n s
+        → (n + (x .minutes - 1) ≤ s → s < (n + (x .minutes - 1)) + hidden ms → Owned ms (n + (x .minutes - 1)) s)
+        → Owned (x ∷ ms) n s
     go (inl u) again = (0, s - n, omega arith, omega arith, omega arith)
     go (inr u) again = let o = again u (omega arith) in (suc (o .0), o .1, omega (arith, o .2), o .3, o .4)
 
@@ -198,15 +212,19 @@ row-at o (suc l) (suc k) h = row-at (suc o) l k (omega arith) ∙ (suc-add o k �
 row-ones : (q : Graph) (o l : ℕ) → ((k : ℕ) → k < l → moveAt q (o + k) .minutes ≡ 1) → span q (row o l) ≡ l
 row-ones q o zero h = refl
 row-ones q o (suc l) h =
-    let a : moveAt q o .minutes ≡ 1 = subst (λ x. moveAt q x .minutes ≡ 1) (add-zero o) (h 0 (omega arith)) in
-    let b = row-ones q (suc o) l (λ k u. subst (λ x. moveAt q x .minutes ≡ 1) (add-suc o k ∙ sym (suc-add o k)) (h (suc k) (omega arith))) in
+    let One : ℕ → Type 0 = λ x. moveAt q x .minutes ≡ 1 in
+    let a : moveAt q o .minutes ≡ 1 = subst One (add-zero o) (h 0 (omega arith)) in
+    let b = row-ones q (suc o) l (λ k u. subst One (add-suc o k ∙ sym (suc-add o k)) (h (suc k) (omega arith))) in
     omega arith
 
-row-span : (q : Graph) (d s n t o : ℕ) → ((k : ℕ) → k < many d → moveAt q (o + k) ≡ at (by-minutes d s n t) k) → span q (row o (many d)) ≡ d
+row-span : (q : Graph) (d s n t o : ℕ) → ((k : ℕ) → k < many d → moveAt q (o + k) ≡ at (by-minutes d s n t) k)
+    → span q (row o (many d)) ≡ d
 row-span q zero s n t o h =
-    let a : moveAt q o .minutes ≡ 0 = subst (λ x. moveAt q x .minutes ≡ 0) (add-zero o) (ap (λ (m : Move). m .minutes) (h 0 (omega arith))) in
+    let e = ap (λ (m : Move). m .minutes) (h 0 (omega arith)) in
+    let a : moveAt q o .minutes ≡ 0 = subst (λ x. moveAt q x .minutes ≡ 0) (add-zero o) e in
     omega arith
-row-span q (suc d) s n t o h = row-ones q o (suc d) (λ k l. ap (λ (m : Move). m .minutes) (h k l) ∙ M-minutes d s n t k l)
+row-span q (suc d) s n t o h =
+    row-ones q o (suc d) (λ k l. ap (λ (m : Move). m .minutes) (h k l) ∙ through-minutes d s n t k l)
 
 hush : (h i : ℕ) → T (getD (replicate h silent-one) i silent-one .shown) → ⊥
 hush zero i t = t
@@ -220,25 +238,57 @@ module _ (p : Graph) (ok : Ends p) where
   abbrev ms : List Move
   ms = p .moves
 
+  -- the first of the new stages of move m
+  abbrev new : ℕ → ℕ
+  new m = fresh ms (size p) m
+
+  -- the ends of the moves that make move m
+  module _ (m : ℕ) (lm : m < count p) where
+    abbrev x : Move
+    x = moveAt p m
+
+    first-leaves : moveAt q (start ms m) .leaves ≡ moveAt p m .leaves
+    first-leaves =
+        let h = many-some (x .minutes) in
+        ap (λ y. moveAt q y .leaves) (sym (add-zero (start ms m)))
+        ∙ ap (λ (y : Move). y .leaves) (made-at ms (size p) m 0 lm h)
+        ∙ by-first (x .minutes) (x .leaves) (new m) (x .enters)
+
+    last-enters : (k : ℕ) → suc k ≡ long ms m → moveAt q (start ms m + k) .enters ≡ moveAt p m .enters
+    last-enters k e =
+        ap (λ (y : Move). y .enters) (made-at ms (size p) m k lm (omega arith))
+        ∙ by-last (x .minutes) (x .leaves) (new m) (x .enters) k e
+
+    enters-new : (k : ℕ) → suc k < long ms m → moveAt q (start ms m + k) .enters ≡ new m + k
+    enters-new k l =
+        ap (λ (y : Move). y .enters) (made-at ms (size p) m k lm (omega arith))
+        ∙ by-enters (x .minutes) (x .leaves) (new m) (x .enters) k l
+
+    leaves-new : (k : ℕ) → suc k < long ms m → moveAt q (start ms m + suc k) .leaves ≡ new m + k
+    leaves-new k l =
+        ap (λ (y : Move). y .leaves) (made-at ms (size p) m (suc k) lm l)
+        ∙ by-leaves (x .minutes) (x .leaves) (new m) (x .enters) k l
+
   abbrev chain : ℕ → List ℕ
   chain m = row (start ms m) (long ms m)
 
   len : (m : ℕ) → length (chain m) ≡ long ms m
   len m = row-length (start ms m) (long ms m)
 
-  chain-at : (m k : ℕ) → m < count p → k < length (chain m) → moveAt q (getD (chain m) k 0) ≡ at (made ms (size p) m) k
-  chain-at m k lm lk =
-      let e = len m in
-      ap (moveAt q) (row-at (start ms m) (long ms m) k (omega arith)) ∙ made-at ms (size p) m k lm (omega arith)
+  chain-at : (m k : ℕ) → k < length (chain m) → getD (chain m) k 0 ≡ start ms m + k
+  chain-at m k l = let e = len m in row-at (start ms m) (long ms m) k (omega arith)
 
   minute-silent : (s : ℕ) → size p ≤ s → Open q s → ⊥
   minute-silent s l o =
+      let added = replicate (hidden ms) silent-one in
       hush (hidden ms) (s - size p)
-      (subst (λ (x : Stage). T (x .shown)) (getD-append-right (p .stages) (replicate (hidden ms) silent-one) (size p) s silent-one refl l) o)
+      (subst (λ (x : Stage). T (x .shown)) (getD-append-right (p .stages) added (size p) s silent-one refl l) o)
 
   -- a move that leaves a new stage
   abbrev Inner : ℕ → Type 0
-  Inner a = (m : ℕ) × (k : ℕ) × (m < count p) × (k < at ms m .minutes - 1) × (start ms m + suc k ≡ a) × (moveAt q a .leaves ≡ fresh ms (size p) m + k)
+  Inner a =
+      (m : ℕ) × (k : ℕ) × (m < count p) × (k < at ms m .minutes - 1) × (start ms m + suc k ≡ a)
+      × (moveAt q a .leaves ≡ new m + k)
 
   inner : (a : ℕ) → a < count q → size p ≤ moveAt q a .leaves → Inner a
   inner a l h = let o = found ms (size p) a l in go (o .0) (o .1) (o .2) (o .3) (o .4)
@@ -246,8 +296,7 @@ module _ (p : Graph) (ok : Ends p) where
       go : (m k : ℕ) → m < count p → k < long ms m → start ms m + k ≡ a → Inner a
       go m zero lm lk e =
           let u : moveAt q a .leaves ≡ moveAt p m .leaves =
-          ap (λ x. moveAt q x .leaves) (sym e) ∙ ap (λ (x : Move). x .leaves) (made-at ms (size p) m 0 lm lk)
-          ∙ B-first (at ms m .minutes) (at ms m .leaves) (fresh ms (size p) m) (at ms m .enters) in
+          ap (λ x. moveAt q x .leaves) (sym e ∙ add-zero (start ms m)) ∙ first-leaves m lm in
           let v = ok .from m lm in
           absurd (omega arith)
       go m (suc k) lm lk e = (
@@ -256,19 +305,20 @@ module _ (p : Graph) (ok : Ends p) where
         lm,
         many-less (at ms m .minutes) k lk,
         e,
-        ap (λ x. moveAt q x .leaves) (sym e) ∙ ap (λ (x : Move). x .leaves) (made-at ms (size p) m (suc k) lm lk)
-            ∙ B-leaves (at ms m .minutes) (at ms m .leaves) (fresh ms (size p) m) (at ms m .enters) k lk,
+        ap (λ x. moveAt q x .leaves) (sym e) ∙ leaves-new m lm k lk,
       )
 
-  inner-one : (a b m k m′ k′ : ℕ) → m < count p → m′ < count p → k < at ms m .minutes - 1 → k′ < at ms m′ .minutes - 1
-      → start ms m + suc k ≡ a → start ms m′ + suc k′ ≡ b → fresh ms (size p) m + k ≡ fresh ms (size p) m′ + k′ → a ≡ b
+  inner-one : (a b m k m′ k′ : ℕ) → m < count p → m′ < count p → k < at ms m .minutes - 1
+      → k′ < at ms m′ .minutes - 1 → start ms m + suc k ≡ a → start ms m′ + suc k′ ≡ b → new m + k ≡ new m′ + k′ → a ≡ b
   inner-one a b m k m′ k′ lm lm′ lk lk′ ea eb e =
       ⊎-elim
       (λ i.
-      let f : fresh ms (size p) m ≡ fresh ms (size p) m′ = ap (fresh ms (size p)) i in
+      let f : new m ≡ new m′ = ap new i in
       let g : start ms m ≡ start ms m′ = ap (start ms) i in
       omega arith)
-      (⊎-elim (λ i. let h = fresh-mono ms (size p) m m′ i lm′ in absurd (omega arith)) (λ i. let h = fresh-mono ms (size p) m′ m i lm in absurd (omega arith)))
+      (⊎-elim
+      (λ i. let h = fresh-mono ms (size p) m m′ i lm′ in absurd (omega arith))
+      (λ i. let h = fresh-mono ms (size p) m′ m i lm in absurd (omega arith)))
       (cases-order m m′)
 
   minute-of : Refines p q
@@ -283,42 +333,33 @@ module _ (p : Graph) (ok : Ends p) where
               some = λ m l. let e = len m in let h = many-some (at ms m .minutes) in omega arith;
               real = λ m k lm lk.
                   let e = len m in
-                  let h : k < long ms m = omega arith in
-                  subst (λ x. x < count q) (sym (row-at (start ms m) (long ms m) k h)) (made-real ms (size p) m k lm h);
+                  subst (λ x. x < count q) (sym (chain-at m k lk)) (made-real ms (size p) m k lm (omega arith));
               first = λ m lm.
                   let e = len m in
                   let h = many-some (at ms m .minutes) in
-                  ap (λ (x : Move). x .leaves) (chain-at m 0 lm (omega arith))
-                  ∙ B-first (at ms m .minutes) (at ms m .leaves) (fresh ms (size p) m) (at ms m .enters);
+                  ap (λ x. moveAt q x .leaves) (chain-at m 0 (omega arith) ∙ add-zero (start ms m)) ∙ first-leaves m lm;
               last = λ m k lm lk.
-                  ap (λ (x : Move). x .enters) (chain-at m k lm (omega arith))
-                  ∙ B-last (at ms m .minutes) (at ms m .leaves) (fresh ms (size p) m) (at ms m .enters) k (lk ∙ len m);
+                  ap (λ x. moveAt q x .enters) (chain-at m k (omega arith)) ∙ last-enters m lm k (lk ∙ len m);
               minutes = λ m lm.
-                  row-span q (at ms m .minutes) (at ms m .leaves) (fresh ms (size p) m) (at ms m .enters) (start ms m) (λ k lk. made-at ms (size p) m k lm lk);
+                  let x = at ms m in
+                  row-span q (x .minutes) (x .leaves) (new m) (x .enters) (start ms m)
+                  (λ k lk. made-at ms (size p) m k lm lk);
               through = λ m k lm lk.
                   let e = len m in
-                  let u : moveAt q (getD (chain m) k 0) .enters ≡ fresh ms (size p) m + k =
-                  ap (λ (x : Move). x .enters) (chain-at m k lm (omega arith))
-                  ∙ B-enters (at ms m .minutes) (at ms m .leaves) (fresh ms (size p) m) (at ms m .enters) k (omega arith) in
+                  let u = enters-new m lm k (omega arith) in
+                  let w : moveAt q (getD (chain m) k 0) .enters ≡ moveAt q (start ms m + k) .enters =
+                  ap (λ x. moveAt q x .enters) (chain-at m k (omega arith)) in
                   let v = fresh-from ms (size p) m in
                   omega arith;
               joined = λ m k lm lk.
                   let e = len m in
-                  ap (λ (x : Move). x .leaves) (chain-at m (suc k) lm lk)
-                  ∙ B-leaves (at ms m .minutes) (at ms m .leaves) (fresh ms (size p) m) (at ms m .enters) k (omega arith)
-                  ∙ sym
-                  (ap (λ (x : Move). x .enters) (chain-at m k lm (omega arith))
-                  ∙ B-enters (at ms m .minutes) (at ms m .leaves) (fresh ms (size p) m) (at ms m .enters) k (omega arith));
+                  ap (λ x. moveAt q x .leaves) (chain-at m (suc k) lk) ∙ leaves-new m lm k (omega arith)
+                  ∙ sym (ap (λ x. moveAt q x .enters) (chain-at m k (omega arith)) ∙ enters-new m lm k (omega arith));
             };
         all = λ a l.
             let o = found ms (size p) a l in
-            let e = len (o .0) in (
-              o .0,
-              o .1,
-              o .2,
-              omega (arith, o .3),
-              row-at (start ms (o .0)) (long ms (o .0)) (o .1) (o .3) ∙ o .4,
-            );
+            let e = len (o .0) in
+            (o .0, o .1, o .2, omega (arith, o .3), chain-at (o .0) (o .1) (omega (arith, o .3)) ∙ o .4);
         one-out = λ a b la lb h e.
             let u = inner a la h in
             let v = inner b lb (subst (λ x. size p ≤ x) e h) in
@@ -326,42 +367,42 @@ module _ (p : Graph) (ok : Ends p) where
       }
 
   minute-size : size q ≡ size p + hidden ms
-  minute-size = length-append (p .stages) (replicate (hidden ms) silent-one) ∙ ap (λ x. size p + x) (length-replicate (hidden ms) silent-one)
+  minute-size =
+      length-append (p .stages) (replicate (hidden ms) silent-one)
+      ∙ ap (λ x. size p + x) (length-replicate (hidden ms) silent-one)
 
-  minute-ends : Ends q
-  minute-ends = record { from = from; to = to }
+  minute-from : (a : ℕ) → a < count q → moveAt q a .leaves < size q
+  minute-from a l =
+      let z = minute-size in
+      ⊎-elim (λ h. omega arith)
+      (λ h.
+      let o = inner a l h in
+      let t = fresh-top ms (size p) (o .0) (o .2) in
+      let e = o .5 in
+      let k = o .3 in
+      omega arith)
+      (cases-lt (moveAt q a .leaves) (size p))
+
+  minute-to : (a : ℕ) → a < count q → moveAt q a .enters < size q
+  minute-to a l =
+      let o = found ms (size p) a l in
+      go (o .0) (o .1) (o .2) (o .3) (o .4) (cases-lt (suc (o .1)) (long ms (o .0)))
     where
-      from : (a : ℕ) → a < count q → moveAt q a .leaves < size q
-      from a l =
+      go : (m k : ℕ) → m < count p → k < long ms m → start ms m + k ≡ a
+          → (suc k < long ms m) ⊎ (long ms m ≤ suc k) → moveAt q a .enters < size q
+      go m k lm lk e (inl h) =
+          let u : moveAt q a .enters ≡ new m + k = ap (λ x. moveAt q x .enters) (sym e) ∙ enters-new m lm k h in
+          let t = fresh-top ms (size p) m lm in
+          let d = many-less (at ms m .minutes) k h in
           let z = minute-size in
-          ⊎-elim (λ h. omega arith)
-          (λ h.
-          let o = inner a l h in
-          let t = fresh-top ms (size p) (o .0) (o .2) in
-          let e = o .5 in
-          let k = o .3 in
-          omega arith)
-          (cases-lt (moveAt q a .leaves) (size p))
-
-      to : (a : ℕ) → a < count q → moveAt q a .enters < size q
-      to a l = let o = found ms (size p) a l in go (o .0) (o .1) (o .2) (o .3) (o .4) (cases-lt (suc (o .1)) (long ms (o .0)))
-        where
-          go : (m k : ℕ) → m < count p → k < long ms m → start ms m + k ≡ a → (suc k < long ms m) ⊎ (long ms m ≤ suc k) → moveAt q a .enters < size q
-          go m k lm lk e (inl h) =
-              let u : moveAt q a .enters ≡ fresh ms (size p) m + k =
-              ap (λ x. moveAt q x .enters) (sym e) ∙ ap (λ (x : Move). x .enters) (made-at ms (size p) m k lm lk)
-              ∙ B-enters (at ms m .minutes) (at ms m .leaves) (fresh ms (size p) m) (at ms m .enters) k h in
-              let t = fresh-top ms (size p) m lm in
-              let d = many-less (at ms m .minutes) k h in
-              let z = minute-size in
-              omega arith
-          go m k lm lk e (inr h) =
-              let u : moveAt q a .enters ≡ moveAt p m .enters =
-              ap (λ x. moveAt q x .enters) (sym e) ∙ ap (λ (x : Move). x .enters) (made-at ms (size p) m k lm lk)
-              ∙ B-last (at ms m .minutes) (at ms m .leaves) (fresh ms (size p) m) (at ms m .enters) k (let y : suc k ≡ many (at ms m .minutes) = omega arith in y) in
-              let t = ok .to m lm in
-              let z = minute-size in
-              omega arith
+          omega arith
+      go m k lm lk e (inr h) =
+          let y : suc k ≡ long ms m = omega arith in
+          let u : moveAt q a .enters ≡ moveAt p m .enters =
+          ap (λ x. moveAt q x .enters) (sym e) ∙ last-enters m lm k y in
+          let t = ok .to m lm in
+          let z = minute-size in
+          omega arith
 
   minute-out : (s : ℕ) → size p ≤ s → s < size q → (m : ℕ) × (m < count q) × (moveAt q m .leaves ≡ s)
   minute-out s l h =
@@ -370,12 +411,13 @@ module _ (p : Graph) (ok : Ends p) where
       let lk = less-many (at ms (o .0) .minutes) (o .1) (o .3) in (
         start ms (o .0) + suc (o .1),
         made-real ms (size p) (o .0) (suc (o .1)) (o .2) lk,
-        ap (λ (x : Move). x .leaves) (made-at ms (size p) (o .0) (suc (o .1)) (o .2) lk)
-            ∙ B-leaves (at ms (o .0) .minutes) (at ms (o .0) .leaves) (fresh ms (size p) (o .0)) (at ms (o .0) .enters) (o .1) lk ∙ o .4,
+        leaves-new (o .0) (o .2) (o .1) lk ∙ o .4,
       )
 
   pub minute-sound : Sound p ↔ Sound (minute p)
-  minute-sound = ((λ h. sound-up p q ok minute-of h minute-ends minute-out), sound-down p q ok minute-of)
+  minute-sound =
+      let ends : Ends q = record { from = minute-from; to = minute-to } in
+      ((λ h. sound-up p q ok minute-of h ends minute-out), sound-down p q ok minute-of)
 
 pub minute-refines : Minute-refines
 minute-refines = minute-of

@@ -14,8 +14,8 @@ abbrev pub minutes-through : ℕ → ℕ → ℕ → ℕ → List Move
 minutes-through zero s n t = leads s 1 t ∷ []
 minutes-through (suc d) s n t = leads s 1 n ∷ minutes-through d n (suc n) t
 
--- What a move of d minutes from s to t is made by, where n is the number of the next new stage. A move of 0 or 1 minutes
--- stays as it is.
+-- What a move of d minutes from s to t is made by, where n is the number of the next new stage. A move of 0 or 1
+-- minutes stays as it is.
 abbrev pub by-minutes : ℕ → ℕ → ℕ → ℕ → List Move
 by-minutes zero s n t = leads s 0 t ∷ []
 by-minutes (suc d) s n t = minutes-through d s n t

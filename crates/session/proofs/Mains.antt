@@ -99,11 +99,15 @@ module _ (caps : Caps) (p : Prog) where
   still-agree {F} P (call.Edit e) (Checked r) t h quiet = absurd h
   still-agree {F} P (call.Edit e) (Edited r) t h quiet = go e h quiet
     where
-      go : (e : Edit) → r ≡ step caps p e .answer → (T (changes (call.Edit e)) → T (accepted {F = F} (Edited r)) → ⊥)
+      unmade : (o : Result ℕ EditFault) → r ≡ o → (T (accepted {F = F} (Edited r)) → ⊥) → T (made o) → ⊥
+      unmade o h refused m = refused (made-accepted F r (subst (λ x. T (made x)) (sym h) m))
+
+      go : (e : Edit) → r ≡ step caps p e .answer
+          → (T (changes (call.Edit e)) → T (accepted {F = F} (Edited r)) → ⊥)
           → Agree (graph p) (graph (step caps p e .after))
-      go (edit.Open m) h quiet = open-same m (λ m′. quiet tt (made-accepted F r (subst (λ x. T (made x)) (sym h) m′)))
-      go (edit.Mark s m) h quiet = mark-same s m (λ m′. quiet tt (made-accepted F r (subst (λ x. T (made x)) (sym h) m′)))
-      go (edit.Lay s d u) h quiet = lay-same s d u (λ m′. quiet tt (made-accepted F r (subst (λ x. T (made x)) (sym h) m′)))
+      go (edit.Open m) h quiet = open-same m (unmade (openStep caps p m .answer) h (quiet tt))
+      go (edit.Mark s m) h quiet = mark-same s m (unmade (markStep p s m .answer) h (quiet tt))
+      go (edit.Lay s d u) h quiet = lay-same s d u (unmade (layStep caps p s d u .answer) h (quiet tt))
       go (edit.Cut k a) h quiet = same-verdicts .after-cut caps p k a t
       go edit.Join h quiet = same-verdicts .after-join p t
 
