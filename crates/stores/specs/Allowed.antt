@@ -1,13 +1,14 @@
 -- What a program allows before a store looks for room: an edit that is allowed, and one that any store would refuse.
 use mathlib.Core.Path.{_≡_}
 use mathlib.Core.Bool.{true}
-use Prim.Native.Nat.{ℕ, _<_, _≤_}
+use Prim.Native.Nat.{ℕ, _-_, _<_, _≤_}
 use lib.ListN.{length}
 use Rattle.program.specs.declared.Stage.{Stage}
 use Rattle.program.specs.declared.Move.{Move}
 use Rattle.program.specs.declared.EditFault.{EditFault}
 use Rattle.program.specs.Meaning.{Prog, Fits, stageAt, moveAt, mostMinutes}
-use Rattle.program.specs.Edits.{Caps, isOpen, markStep, layStep, refused}
+use Rattle.program.specs.Edits.{Caps, isOpen, leads, markStep, layStep, cutStep, refused}
+use Rattle.stores.specs.declared.allowed.Pieces.{Pieces}
 
 -- Each move has both ends among the stages, and is not too long.
 abbrev pub Ends : Prog → Type 0
@@ -33,3 +34,13 @@ pub record LayAllowed (p : Prog) (s d t : ℕ) (r : Move) : Type 0 where
 
 abbrev pub LayRefused : Prog → ℕ → ℕ → ℕ → EditFault → Type 0
 LayRefused p s d t e = (caps : Caps) → layStep caps p s d t ≡ refused e p
+
+-- There is a move k, it takes a minutes at least, and r is what a cut there makes of it, joined by a new last stage.
+pub record CutAllowed (p : Prog) (k a : ℕ) (r : Pieces) : Type 0 where
+  pub real : k < length (p .moves)
+  pub inside : a ≤ moveAt p k .minutes
+  pub first : r .first ≡ leads (moveAt p k .leaves) a (length (p .stages))
+  pub second : r .second ≡ leads (length (p .stages)) (moveAt p k .minutes - a) (moveAt p k .enters)
+
+abbrev pub CutRefused : Prog → ℕ → ℕ → EditFault → Type 0
+CutRefused p k a e = (caps : Caps) → cutStep caps p k a ≡ refused e p

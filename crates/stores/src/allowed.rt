@@ -2,6 +2,7 @@
 ghost use mathlib.Core.Path.{_≡_};
 ghost use Rattle.std.specs.Results.{Cases};
 ghost use Rattle.stores.specs.Allowed.{MarkAllowed, MarkRefused, LayAllowed, LayRefused};
+ghost use Rattle.stores.specs.Allowed.{CutAllowed, CutRefused};
 use program::EditFault;
 use program::Kind;
 use program::MOST_MINUTES;
@@ -50,4 +51,44 @@ pub fn allowed_move<P: Program>(
         minutes: minutes as u16,
         enters: enters as u16,
     })
+}
+
+// What a cut appends to the stages.
+pub const SILENT: Stage = Stage {
+    marks: 0,
+    kind: Kind::Silent,
+};
+
+// The two moves that a cut makes of one.
+#[derive(Clone, Copy)]
+pub struct Pieces {
+    pub first: Move,
+    pub second: Move,
+}
+
+// The pieces of move k, where `cut` may cut it `place` minutes after it begins, at a new last stage.
+pub fn allowed_pieces<P: Program>(program: &P, k: usize, place: u32) -> Result<Pieces, EditFault>
+    ensures { λ r. ⌜ Cases r (CutAllowed (meaning (now (program .entry))) k place)
+        (CutRefused (meaning (now (program .entry))) k place) ⌝ }
+{
+    if k >= program.move_count() {
+        return Err(EditFault::NoMove);
+    }
+    let whole = program.move_at(k);
+    if place > whole.minutes as u32 {
+        return Err(EditFault::TooLong);
+    }
+    let minutes = place as u16;
+    let stage = program.stage_count() as u16;
+    let first = Move {
+        leaves: whole.leaves,
+        minutes,
+        enters: stage,
+    };
+    let second = Move {
+        leaves: stage,
+        minutes: whole.minutes - minutes,
+        enters: whole.enters,
+    };
+    Ok(Pieces { first, second })
 }

@@ -2,4 +2,5 @@
 // Both keep the promises of `program::Store`; neither takes heap memory.
 mod allowed;
 pub mod card;
+mod joint;
 pub mod tray;

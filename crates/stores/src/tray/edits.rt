@@ -149,4 +149,12 @@ pub impl<'a> Store for Tray<'a> as TrayStore {
         self.move_count = n + 1;
         Ok(n)
     }
+
+    fn cut(&mut self, k: usize, place: u32) -> Result<usize, EditFault> {
+        Err(EditFault::NothingToJoin)
+    }
+
+    fn join(&mut self) -> Result<usize, EditFault> {
+        Err(EditFault::NothingToJoin)
+    }
 }

@@ -3,7 +3,9 @@ use Prim.Native.Nat.{_<_}
 use native.Mathlib.Omega.{arith}
 use lib.ListN.{length}
 use Rattle.std.proofs.shelf.Lists.{length-set, length-take-le}
+use Rattle.program.specs.declared.edit.Edit.the-variants as edit
 use Rattle.program.proofs.Doing.{opens}
+use Rattle.program.proofs.Kept.{does-tidy}
 use Rattle.stores.specs.Cards.{cardCaps}
 use Rattle.stores.proofs.Cards.{card-opened}
 use Rattle.stores.proofs.Kept.{ends-kept-by-open}
@@ -20,7 +22,6 @@ pub returns : need.returns
 returns c =
     let card = c .args .self .now in
     let h : card .stages .count < length (card .stages .records) = omega arith in
-    record {
-      does = opens cardCaps _ _ _ _ (length-take-le _ _ (omega arith)) (c .if-n-ge-CARD-STAGES .left) (card-opened (card .stages) (card .moves) _ h);
-      kept = refl;
-    }
+    let opened = card-opened (card .stages) (card .moves) (c .args .marks) h in
+    let does = opens cardCaps _ _ _ _ (length-take-le _ _ (omega arith)) (c .if-n-ge-CARD-STAGES .left) opened in
+    record { does = does; tidy = does-tidy cardCaps _ _ (edit.Open (c .args .marks)) _ (λ _. does); kept = refl }
