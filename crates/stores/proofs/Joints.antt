@@ -19,7 +19,7 @@ use Rattle.program.proofs.Cuts.{into-is, out-of-is, in-and-out, join-short}
 use Rattle.stores.specs.declared.joint.End.the-variants.{Leaves, Enters}
 use Rattle.stores.specs.declared.joint.Joint.{Joint}
 use Rattle.stores.specs.Allowed.{Ends}
-use Rattle.stores.specs.Ends.{endOf, Only}
+use Rattle.stores.specs.MoveEnds.{endOf, Only}
 use Rattle.stores.specs.Joints.{JoinAllowed}
 
 -- The program without stage e, whose move in is i and whose move out is o: i does what both did.

@@ -1,8 +1,10 @@
--- What a program allows before a store looks for room: an edit that is allowed, and one that any store would refuse.
+-- What a program allows before a store looks for room: an edit is allowed, or every store refuses it.
 use mathlib.Core.Path.{_≡_}
 use mathlib.Core.Bool.{true}
 use Prim.Native.Nat.{ℕ, _-_, _<_, _≤_}
 use lib.ListN.{length}
+use Rattle.std.specs.declared.result.Result.{Result}
+use Rattle.std.specs.Results.{Cases}
 use Rattle.program.specs.declared.Stage.{Stage}
 use Rattle.program.specs.declared.Move.{Move}
 use Rattle.program.specs.declared.EditFault.{EditFault}
@@ -20,8 +22,8 @@ pub record MarkAllowed (p : Prog) (s : ℕ) (r : Stage) : Type 0 where
   pub shown : isOpen (stageAt p s .kind) ≡ true
   pub is : r ≡ stageAt p s
 
-abbrev pub MarkRefused : Prog → ℕ → EditFault → Type 0
-MarkRefused p s e = (m : ℕ) → markStep p s m ≡ refused e p
+abbrev pub MarkTested : Prog → ℕ → Result Stage EditFault → Type 0
+MarkTested p s r = Cases r (MarkAllowed p s) (λ e. (m : ℕ) → markStep p s m ≡ refused e p)
 
 -- Both ends are open stages, the minutes are few enough, and r is that move.
 pub record LayAllowed (p : Prog) (s d t : ℕ) (r : Move) : Type 0 where
@@ -32,8 +34,8 @@ pub record LayAllowed (p : Prog) (s d t : ℕ) (r : Move) : Type 0 where
   pub short : d ≤ mostMinutes
   pub is : r ≡ record { leaves = s; minutes = d; enters = t }
 
-abbrev pub LayRefused : Prog → ℕ → ℕ → ℕ → EditFault → Type 0
-LayRefused p s d t e = (caps : Caps) → layStep caps p s d t ≡ refused e p
+abbrev pub LayTested : Prog → ℕ → ℕ → ℕ → Result Move EditFault → Type 0
+LayTested p s d t r = Cases r (LayAllowed p s d t) (λ e. (caps : Caps) → layStep caps p s d t ≡ refused e p)
 
 -- There is a move k, it takes a minutes at least, and r is what a cut there makes of it, joined by a new last stage.
 pub record CutAllowed (p : Prog) (k a : ℕ) (r : Pieces) : Type 0 where
@@ -42,5 +44,5 @@ pub record CutAllowed (p : Prog) (k a : ℕ) (r : Pieces) : Type 0 where
   pub first : r .first ≡ leads (moveAt p k .leaves) a (length (p .stages))
   pub second : r .second ≡ leads (length (p .stages)) (moveAt p k .minutes - a) (moveAt p k .enters)
 
-abbrev pub CutRefused : Prog → ℕ → ℕ → EditFault → Type 0
-CutRefused p k a e = (caps : Caps) → cutStep caps p k a ≡ refused e p
+abbrev pub CutTested : Prog → ℕ → ℕ → Result Pieces EditFault → Type 0
+CutTested p k a r = Cases r (CutAllowed p k a) (λ e. (caps : Caps) → cutStep caps p k a ≡ refused e p)

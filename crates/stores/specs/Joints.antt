@@ -4,14 +4,15 @@ use mathlib.Core.Path.{_≡_}
 use mathlib.Core.Bool.{false}
 use Prim.Native.Nat.{ℕ, suc, _+_, _≤_}
 use lib.ListN.{length}
-use Rattle.program.specs.declared.Move.{Move}
+use Rattle.std.specs.declared.result.Result.{Result}
+use Rattle.std.specs.Results.{Cases}
 use Rattle.program.specs.declared.EditFault.{EditFault}
 use Rattle.program.specs.Meaning.{Prog, stageAt, moveAt, mostMinutes}
 use Rattle.program.specs.Edits.{isOpen, leads, joinStep, refused}
 use Rattle.program.specs.Tidy.{Tidy}
 use Rattle.stores.specs.declared.joint.End.the-variants.{Leaves, Enters}
 use Rattle.stores.specs.declared.joint.Joint.{Joint}
-use Rattle.stores.specs.Ends.{endOf, Only}
+use Rattle.stores.specs.MoveEnds.{endOf, Only}
 
 pub record JoinAllowed (p : Prog) (j : Joint) : Type 0 where
   pub last : length (p .stages) ≡ suc (j .stage)
@@ -26,5 +27,5 @@ pub record JoinAllowed (p : Prog) (j : Joint) : Type 0 where
       (moveAt p (j .«out_of») .enters)
 
 -- A tidy program is refused a join only where its step says so.
-abbrev pub JoinRefused : Prog → EditFault → Type 0
-JoinRefused p e = Tidy p → joinStep p ≡ refused e p
+abbrev pub JoinTested : Prog → Result Joint EditFault → Type 0
+JoinTested p r = Cases r (JoinAllowed p) (λ e. Tidy p → joinStep p ≡ refused e p)

@@ -1,5 +1,5 @@
 pub mod Allowed
-pub mod Ends
+pub mod MoveEnds
 pub mod Joints
 pub mod Cards
 pub mod Areas

@@ -3,9 +3,8 @@ ghost use mathlib.Core.Path.{_≡_};
 ghost use Prim.Native.Nat.{ℕ, _<_, _≤_};
 ghost use lib.ListN.{length};
 ghost use Rattle.std.specs.Options.{Cases as BySome};
-ghost use Rattle.std.specs.Results.{Cases};
-ghost use Rattle.stores.specs.Ends.{endOf, NoneFrom, FirstFrom, Only};
-ghost use Rattle.stores.specs.Joints.{JoinAllowed, JoinRefused};
+ghost use Rattle.stores.specs.MoveEnds.{endOf, NoneFrom, FirstFrom, Only};
+ghost use Rattle.stores.specs.Joints.{JoinTested};
 ghost use Rattle.program.specs.Tidy.{JustOne};
 use program::EditFault;
 use program::Kind;
@@ -67,8 +66,7 @@ pub struct Joint {
 
 // The joint that `join` may take out. In a tidy program there is one wherever the last stage is silent.
 pub fn find_joint<P: Program>(program: &P) -> Result<Joint, EditFault>
-    ensures { λ r. ⌜ Cases r (JoinAllowed (meaning (now (program .entry))))
-        (JoinRefused (meaning (now (program .entry)))) ⌝ }
+    ensures { λ r. ⌜ JoinTested (meaning (now (program .entry))) r ⌝ }
 {
     let stages = program.stage_count();
     if stages == 0 {

@@ -1,4 +1,4 @@
-use Rattle.stores.specs.Ends.{endOf, NoneBetween}
+use Rattle.stores.specs.MoveEnds.{endOf, NoneBetween}
 use Rattle.stores.proofs.joint.first_move.Given as given
 
 abbrev pub Inv-loop-k : given.InvT-loop-k

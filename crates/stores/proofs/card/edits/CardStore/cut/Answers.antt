@@ -26,7 +26,7 @@ ghost-self c =
     let below : c .args .k < card .moves .count = omega (arith, allowed .real) in
     let hs : card .stages .count < length (card .stages .records) = omega arith in
     let hm : card .moves .count < length (card .moves .records) = omega arith in
-    let cut = card-cut (card .stages) (card .moves) (c .args .k) (c .args .place) _ allowed below hs hm in
+    let cut = card-cut _ _ _ _ (c .args .k) (c .args .place) _ allowed below hs hm in
     let ends = ends-kept-by-cut _ _ _ _ _ allowed cut (card .ends) in (
       simp length-set (card .«stage_table»),
       (simp length-set (card .«move_table»), (omega arith, (omega arith, (ends, tt)))),
@@ -41,7 +41,7 @@ returns c =
     let below : c .args .k < card .moves .count = omega (arith, allowed .real) in
     let hs : card .stages .count < length (card .stages .records) = omega arith in
     let hm : card .moves .count < length (card .moves .records) = omega arith in
-    let cut = card-cut (card .stages) (card .moves) (c .args .k) (c .args .place) _ allowed below hs hm in
+    let cut = card-cut _ _ _ _ (c .args .k) (c .args .place) _ allowed below hs hm in
     let does = cuts cardCaps _ _ _ _ _ (allowed .real) (allowed .inside) s (omega arith) (omega arith) cut in
     let tidy = does-tidy cardCaps _ _ (edit.Cut (c .args .k) (c .args .place)) _ (λ _. does) in
     record { does = does; tidy = tidy; kept = refl }

@@ -5,36 +5,35 @@ use lib.ListN.{length}
 use Rattle.std.proofs.shelf.Lists.{length-set, length-take-le}
 use Rattle.std.proofs.shelf.Results.{err-from-errBy}
 use Rattle.program.specs.declared.edit.Edit.the-variants as edit
-use Rattle.program.proofs.Doing.{lays}
 use Rattle.program.proofs.Kept.{does-tidy}
 use Rattle.stores.specs.Cards.{cardCaps}
 use Rattle.stores.proofs.Cards.{card-laid}
 use Rattle.stores.proofs.Kept.{ends-kept-by-lay}
+use Rattle.stores.proofs.Refusals.{allowed-lays}
 use Rattle.stores.proofs.card.edits.CardStore.lay.Needs as need
 
 pub returns-in-Break-record : need.returns-in-Break-record
 returns-in-Break-record c =
     let p = err-from-errBy (c .from-residual .result) (c .from-residual .ensures .1) in
-    rw (p .1, p .2, c .in-Break-record .ensures tt cardCaps) (record { does = record { answers = refl; leaves = refl }; tidy = λ t. t; kept = refl })
+    rw (p .1, p .2, c .in-Break-record .ensures tt cardCaps)
+    (record { does = record { answers = refl; leaves = refl }; tidy = λ t. t; kept = refl })
 
 pub ghost-self : need.ghost-self
 ghost-self c =
     let card = c .args .self .now in
     let allowed = c .in-Continue-record .ensures tt in
     let h : card .moves .count < length (card .moves .records) = omega arith in
-    let laid = card-laid (card .stages) (card .moves) _ _ _ _ h (allowed .is) in
+    let laid = card-laid (card .stages .count) _ (card .stages .records) _ _ _ _ _ h (allowed .is) in
     let ends = ends-kept-by-lay _ _ _ _ _ _ allowed laid (card .ends) in
     (card .«stage_table», (simp length-set (card .«move_table»), (card .«stage_room», (omega arith, (ends, tt)))))
 
 pub returns : need.returns
 returns c =
     let card = c .args .self .now in
-    let a = c .in-Continue-record .ensures tt in
-    let h : card .moves .count < length (card .moves .records) = omega arith in
-    let laid = card-laid (card .stages) (card .moves) _ _ _ _ h (a .is) in
+    let allowed = c .in-Continue-record .ensures tt in
     let n = length-take-le (card .moves .count) (card .moves .records) (omega arith) in
-    let does =
-    lays cardCaps _ _ _ _ _ _ (a .leaves-stage) (a .enters-stage) (a .leaves-open) (a .enters-open) (a .short) n
-    (c .if-n-ge-CARD-MOVES .left) laid in
+    let h : card .moves .count < length (card .moves .records) = omega arith in
+    let laid = card-laid (card .stages .count) _ (card .stages .records) _ _ _ _ _ h (allowed .is) in
+    let does = allowed-lays cardCaps _ _ _ _ _ _ _ allowed n (c .if-n-ge-CARD-MOVES .left) laid in
     let tidy = does-tidy cardCaps _ _ (edit.Lay (c .args .leaves) (c .args .minutes) (c .args .enters)) _ (λ _. does) in
     record { does = does; tidy = tidy; kept = refl }

@@ -3,7 +3,7 @@ use mathlib.Core.Path.{_≡_}
 use mathlib.Core.List.{_++_}
 use lib.ListN.{drop, replicate}
 use Rattle.std.specs.Of.Vec.{vec-items, vec-len}
-use Rattle.stores.proofs.tray.areas.clear.Given as given
+use Rattle.stores.proofs.tray.bytes.clear.Given as given
 
 abbrev pub Inv-loop-i : given.InvT-loop-i
 Inv-loop-i l =

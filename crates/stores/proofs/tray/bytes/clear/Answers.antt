@@ -5,7 +5,7 @@ use lib.ListN.{length, set}
 use Rattle.std.specs.Of.Vec.{vec-len}
 use Rattle.std.proofs.shelf.Edits.{fill-more}
 use Rattle.std.proofs.shelf.Lists.{drop-all, append-nil}
-use Rattle.stores.proofs.tray.areas.clear.Needs as need
+use Rattle.stores.proofs.tray.bytes.clear.Needs as need
 
 pub loop-i-again : need.loop-i-again
 loop-i-again c =
