@@ -1,18 +1,16 @@
 -- A gap in a list is closed by moving what lies behind it down, element by element.
 use mathlib.Core.Path.{_≡_, refl, sym, ap, _∙_}
 use mathlib.Core.List.{List, _++_}
-use Prim.Native.Nat.{ℕ, suc, _+_, _-_, _<_, _≤_}
+use Prim.Native.Nat.{ℕ, suc, _+_, _-_, _*_, _<_, _≤_}
+use native.Mathlib.Nat.{mul-suc, mul-le-mul-left}
 use native.Mathlib.Omega.{arith}
 use lib.ListN.{length, take, drop, getD, set, replicate}
 use lib.Seq.{paste}
 use Rattle.std.specs.Holes.{removed, between}
 use Rattle.std.proofs.shelf.Lists.{append-assoc, length-drop, length-replicate, getD-drop, drop-drop, drop-take}
 use Rattle.std.proofs.shelf.Lists.{take-take, take-all}
-use Rattle.std.proofs.shelf.Edits.{paste-none, paste-more, paste-all, length-paste, take-paste, drop-paste}
-
--- xs, with the elements from `at + by` on moved down to `at`, as far as place i.
-abbrev pub shifted : {X : Type 0} → List X → ℕ → ℕ → ℕ → List X
-shifted xs at by i = paste xs at (drop (at + by) xs) (i - at)
+use Rattle.stores.specs.Areas.{put, shifted, takenOut}
+use Rattle.std.proofs.shelf.Edits.{paste-none, paste-more, length-paste, take-paste, drop-paste}
 
 module _ {X : Type 0} (xs : List X) (at by : ℕ) where
   pub shifted-none : xs ≡ shifted xs at by at
@@ -72,16 +70,28 @@ take-shifted-removed xs k n from h =
     ∙ ap (λ ys. ys ++ drop (suc k) (take (n + 1) xs)) (sym (take-take k (n + 1) xs (omega arith)))
 
 -- The gap closed up to `end`, and zeros in what that leaves behind.
-pub shifted-zeros : (bs : List ℕ) (at by end : ℕ) → at ≤ end → end + by ≤ length bs
-    → paste (shifted bs at by end) end (replicate by 0) by
+shifted-zeros : (bs : List ℕ) (at by end : ℕ) → at ≤ end → end + by ≤ length bs
+    → put (shifted bs at by end) end (replicate by 0)
     ≡ take at bs ++ (between (at + by) (end + by) bs ++ (replicate by 0 ++ drop (end + by) bs))
 shifted-zeros bs at by end from h =
     let closed = shifted bs at by end in
     let width : end - at ≡ (end + by) - (at + by) = omega arith in
     let behind : drop (end + by) closed ≡ drop (end + by) bs =
     sym (drop-drop by end closed) ∙ ap (drop by) (drop-shifted bs at by end from h) ∙ drop-drop by end bs in
-    paste-all closed end (replicate by 0) by (sym (length-replicate by 0))
+    ap (λ n. take end closed ++ (replicate by 0 ++ drop (end + n) closed)) (length-replicate by 0)
     ∙ ap (λ r. r ++ (replicate by 0 ++ drop (end + by) closed)) (take-shifted bs at by end from h)
     ∙ ap (λ r. (take at bs ++ take (end - at) (drop (at + by) bs)) ++ (replicate by 0 ++ r)) behind
     ∙ ap (λ n. (take at bs ++ take n (drop (at + by) bs)) ++ (replicate by 0 ++ drop (end + by) bs)) width
     ∙ append-assoc (take at bs) _ _
+
+-- Records of w bytes: what lies behind record k of n moved down over it, and zeros in the last place.
+pub shifted-takenOut : (bs : List ℕ) (w n k m : ℕ) → n ≡ suc m → k ≤ m → w * n ≤ length bs
+    → put (shifted bs (w * k) w (w * m)) (w * m) (replicate w 0) ≡ takenOut w n k bs
+shifted-takenOut bs w n k m one from h =
+    let last : w * m + w ≡ w * n = sym (ap (λ x. w * x) one ∙ mul-suc w m) in
+    let one-more : k + 1 ≡ suc k = omega arith in
+    let next : w * k + w ≡ w * (k + 1) = sym (ap (λ x. w * x) one-more ∙ mul-suc w k) in
+    let below : w * k ≤ w * m = mul-le-mul-left w from in
+    shifted-zeros bs (w * k) w (w * m) below (omega arith)
+    ∙ ap (λ a. take (w * k) bs ++ (between a (w * m + w) bs ++ (replicate w 0 ++ drop (w * m + w) bs))) next
+    ∙ ap (λ e. take (w * k) bs ++ (between (w * (k + 1)) e bs ++ (replicate w 0 ++ drop e bs))) last

@@ -9,11 +9,12 @@ use Rattle.std.specs.Holes.{removed}
 use Rattle.std.proofs.shelf.Lists.{length-set, length-take-le, getD-set-same, getD-set-other}
 use Rattle.std.proofs.shelf.Edits.{length-removed, getD-removed-below, getD-removed-above}
 use Rattle.std.proofs.shelf.Tests.{cases-eq, cases-lt}
-use Rattle.program.specs.declared.Kind.the-variants.{Silent}
+use Rattle.std.specs.declared.result.Result.the-variants.{Ok}
 use Rattle.program.specs.declared.Move.{Move}
 use Rattle.program.specs.Meaning.{Prog, Fits, noMove, stageAt, moveAt, mostMinutes}
-use Rattle.program.specs.Edits.{isOpen, leads, lastStage, moveInto, moveOutOf, withJoin}
+use Rattle.program.specs.Edits.{Does, isOpen, leads, lastStage, moveInto, moveOutOf, withJoin, joinStep}
 use Rattle.program.specs.Tidy.{SilentAt, Tidy}
+use Rattle.program.proofs.Doing.{joins}
 use Rattle.program.proofs.Kept.{silent-from}
 use Rattle.program.proofs.Cuts.{into-is, out-of-is, in-and-out, join-short}
 use Rattle.stores.specs.declared.joint.End.the-variants.{Leaves, Enters}
@@ -62,7 +63,7 @@ module _ (p : Prog) (s i o : ℕ) (last : length (p .stages) ≡ suc s) (hushed 
       omega arith
 
 module _ (p : Prog) (j : Joint) (a : JoinAllowed p j) where
-  pub joined-withJoin : Tidy p → joined p j ≡ withJoin p
+  joined-withJoin : Tidy p → joined p j ≡ withJoin p
   joined-withJoin t =
       let s = last-is p (j .stage) (j .into) (j .«out_of») (a .last) (a .hushed) (a .enters) (a .leaves) t in
       let i = move-into p (j .stage) (j .into) (j .«out_of») (a .last) (a .hushed) (a .enters) (a .leaves) t in
@@ -71,6 +72,10 @@ module _ (p : Prog) (j : Joint) (a : JoinAllowed p j) where
       ∙ ap (λ s. joinedAt p s (j .into) (j .«out_of»)) (sym s)
       ∙ ap (λ m. joinedAt p (lastStage p) m (j .«out_of»)) (sym i)
       ∙ ap (joinedAt p (lastStage p) (moveInto p (lastStage p))) (sym o)
+
+  -- On a tidy program, a store that is left without the joint did what the step says.
+  pub joined-does : (q : Prog) → q ≡ joined p j → Tidy p → Does (joinStep p) (Ok (j .stage)) q
+  joined-does q e t = joins p q (j .stage) (a .last) (a .hushed) (e ∙ joined-withJoin t)
 
   module _ (ends : Ends p) where
     leaves-below : (x : ℕ) → x < length (p .moves) → (x ≡ j .«out_of» → ⊥) → moveAt p x .leaves < j .stage

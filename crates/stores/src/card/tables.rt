@@ -3,6 +3,7 @@ ghost use mathlib.Core.Path.{_≡_};
 ghost use Prim.Native.Nat.{_+_, _<_, _≤_};
 ghost use lib.ListN.{length, take};
 ghost use Rattle.std.specs.Holes.{removed};
+ghost use Rattle.stores.specs.Cards.{cardMoves};
 use program::Move;
 use program::Stage;
 
@@ -24,7 +25,9 @@ pub struct MoveTable {
 
 // Takes record k out; later records stand one place lower.
 pub fn take_out(table: &mut MoveTable, k: usize)
-    requires { ⌜ k < now table .count ⌝ ∗ ⌜ now table .count ≤ length (now table .records) ⌝ }
+    requires some { ⌜ k < now table .count ⌝ }
+    requires room { ⌜ now table .count ≤ cardMoves ⌝ }
+    requires long { ⌜ length (now table .records) ≡ cardMoves ⌝ }
     ensures records { λ _. ⌜ take (now (table .exit) .count) (now (table .exit) .records)
         ≡ removed (take (now (table .entry) .count) (now (table .entry) .records)) k ⌝ }
     ensures count { λ _. ⌜ now (table .exit) .count + 1 ≡ now (table .entry) .count ⌝ }

@@ -1,5 +1,5 @@
 use mathlib.Core.Path.{_≡_}
-use Rattle.stores.proofs.Gaps.{shifted}
+use Rattle.stores.specs.Areas.{shifted}
 use Rattle.stores.proofs.card.tables.take_out.Given as given
 
 abbrev pub Inv-loop-i : given.InvT-loop-i
