@@ -34,6 +34,6 @@ returns c =
     let n = length-take-le (card .moves .count) (card .moves .records) (omega arith) in
     let h : card .moves .count < length (card .moves .records) = omega arith in
     let laid = card-laid (card .stages .count) _ (card .stages .records) _ _ _ _ _ h (allowed .is) in
-    let does = allowed-lays cardCaps _ _ _ _ _ _ _ allowed n (c .if-n-ge-CARD-MOVES .left) laid in
+    let does = allowed-lays cardCaps _ _ _ _ _ _ _ allowed n (omega arith) laid in
     let tidy = does-tidy cardCaps _ _ (edit.Lay (c .args .leaves) (c .args .minutes) (c .args .enters)) _ (λ _. does) in
     record { does = does; tidy = tidy; kept = refl }

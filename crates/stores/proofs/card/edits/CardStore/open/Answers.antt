@@ -25,5 +25,5 @@ returns c =
     let h : card .stages .count < length (card .stages .records) = omega arith in
     let opened = card-opened _ (card .moves .count) _ (card .moves .records) (c .args .marks) h in
     let n = length-take-le (card .stages .count) (card .stages .records) (omega arith) in
-    let does = opens cardCaps _ _ _ _ n (c .if-n-ge-CARD-STAGES .left) opened in
+    let does = opens cardCaps _ _ _ _ n (omega arith) opened in
     record { does = does; tidy = does-tidy cardCaps _ _ (edit.Open (c .args .marks)) _ (λ _. does); kept = refl }
