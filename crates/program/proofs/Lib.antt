@@ -1,1 +1,4 @@
 pub mod Doing
+pub mod Splits
+pub mod Cuts
+pub mod Kept

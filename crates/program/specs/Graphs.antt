@@ -1,4 +1,4 @@
--- The timed graph of a program, over which rules have their meaning: the one way from the product's lists to the theory.
+-- The timed graph of a program, over which rules have their meaning: the one way from its lists to the theory.
 use mathlib.Core.List.{map}
 use Rattle.program.specs.declared.Stage.{Stage}
 use Rattle.program.specs.declared.Move.{Move}

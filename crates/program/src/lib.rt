@@ -4,7 +4,10 @@ ghost use mathlib.Core.Path.{_≡_};
 ghost use Prim.Native.Nat.{ℕ, _≤_};
 ghost use lib.ListN.{length};
 ghost use Rattle.program.specs.Meaning.{Prog, Limits, stageAt, moveAt, mostStages, mostMoves};
-ghost use Rattle.program.specs.Edits.{Caps, Does, openStep, markStep, layStep, faultNumber};
+ghost use Rattle.program.specs.Edits.{Caps, Does, openStep, markStep, layStep, cutStep, joinStep, faultNumber};
+ghost use Rattle.program.specs.Tidy.{Tidy, StaysTidy};
+
+pub mod edit;
 
 // The most stages and moves of a program, and the most minutes of a move (a week).
 pub const MOST_STAGES: usize = 1024;
@@ -42,12 +45,16 @@ pub enum EditFault {
     NoStage,
     // a silent stage
     SilentStage,
-    // more than MOST_MINUTES
+    // a move not below the count
+    NoMove,
+    // more than MOST_MINUTES, or a place of a cut above the move's minutes
     TooLong,
     // as many stages as the capacity
     StagesFull,
     // as many moves as the capacity
     MovesFull,
+    // no stage, or an open one as the last
+    NothingToJoin,
 }
 
 impl EditFault {
@@ -58,9 +65,11 @@ impl EditFault {
         match self {
             EditFault::NoStage => 1,
             EditFault::SilentStage => 2,
+            EditFault::NoMove => 3,
             EditFault::TooLong => 4,
             EditFault::StagesFull => 5,
             EditFault::MovesFull => 6,
+            EditFault::NothingToJoin => 7,
         }
     }
 }
@@ -96,7 +105,8 @@ pub trait Program {
         ensures { λ r. ⌜ r ≡ moveAt (meaning (now (self .entry))) k ⌝ };
 }
 
-// A store: a program that can be edited in place. It adds two capacities, fixed when it is made.
+// A store: a program that can be edited in place. It adds two capacities, fixed when it is made. Each edit promises
+// that it does what its step says, that a tidy program stays tidy, and that the capacities are kept.
 pub trait Store: Program {
     ghost room: { Self → Caps };
 
@@ -110,16 +120,48 @@ pub trait Store: Program {
 
     // Appends an open stage, and answers its number.
     fn open(&mut self, marks: u16) -> Result<usize, EditFault>
-        ensures does { λ r. ⌜ Does (openStep (room (now (self .entry))) (Self·Program .meaning (now (self .entry))) marks) r (Self·Program .meaning (now (self .exit))) ⌝ }
+        ensures does { λ r. ⌜ Does
+            (openStep (room (now (self .entry))) (Self·Program .meaning (now (self .entry))) marks) r
+            (Self·Program .meaning (now (self .exit))) ⌝ }
+        ensures tidy { λ _. ⌜ StaysTidy (Self·Program .meaning (now (self .entry)))
+            (Self·Program .meaning (now (self .exit))) ⌝ }
         ensures kept { λ _. ⌜ room (now (self .exit)) ≡ room (now (self .entry)) ⌝ };
 
     // Replaces the marks of an open stage, and answers its number.
     fn mark(&mut self, stage: usize, marks: u16) -> Result<usize, EditFault>
-        ensures does { λ r. ⌜ Does (markStep (Self·Program .meaning (now (self .entry))) stage marks) r (Self·Program .meaning (now (self .exit))) ⌝ }
+        ensures does { λ r. ⌜ Does
+            (markStep (Self·Program .meaning (now (self .entry))) stage marks) r
+            (Self·Program .meaning (now (self .exit))) ⌝ }
+        ensures tidy { λ _. ⌜ StaysTidy (Self·Program .meaning (now (self .entry)))
+            (Self·Program .meaning (now (self .exit))) ⌝ }
         ensures kept { λ _. ⌜ room (now (self .exit)) ≡ room (now (self .entry)) ⌝ };
 
     // Appends a move between open stages, and answers its number.
     fn lay(&mut self, leaves: usize, minutes: u32, enters: usize) -> Result<usize, EditFault>
-        ensures does { λ r. ⌜ Does (layStep (room (now (self .entry))) (Self·Program .meaning (now (self .entry))) leaves minutes enters) r (Self·Program .meaning (now (self .exit))) ⌝ }
+        ensures does { λ r. ⌜ Does
+            (layStep (room (now (self .entry))) (Self·Program .meaning (now (self .entry))) leaves minutes enters) r
+            (Self·Program .meaning (now (self .exit))) ⌝ }
+        ensures tidy { λ _. ⌜ StaysTidy (Self·Program .meaning (now (self .entry)))
+            (Self·Program .meaning (now (self .exit))) ⌝ }
+        ensures kept { λ _. ⌜ room (now (self .exit)) ≡ room (now (self .entry)) ⌝ };
+
+    // Makes two moves of move k, joined by a new silent stage `place` minutes after the move begins, and answers the
+    // new stage's number.
+    fn cut(&mut self, k: usize, place: u32) -> Result<usize, EditFault>
+        ensures does { λ r. ⌜ Does
+            (cutStep (room (now (self .entry))) (Self·Program .meaning (now (self .entry))) k place) r
+            (Self·Program .meaning (now (self .exit))) ⌝ }
+        ensures tidy { λ _. ⌜ StaysTidy (Self·Program .meaning (now (self .entry)))
+            (Self·Program .meaning (now (self .exit))) ⌝ }
+        ensures kept { λ _. ⌜ room (now (self .exit)) ≡ room (now (self .entry)) ⌝ };
+
+    // Makes one move of the two that the last stage, a silent one, joins, and answers the number of the stage taken
+    // out. The step is promised of a tidy program: only there are these just two, and their minutes a move's.
+    fn join(&mut self) -> Result<usize, EditFault>
+        ensures does { λ r. ⌜ (Tidy (Self·Program .meaning (now (self .entry)))
+            → Does (joinStep (Self·Program .meaning (now (self .entry)))) r
+            (Self·Program .meaning (now (self .exit)))) ⌝ }
+        ensures tidy { λ _. ⌜ StaysTidy (Self·Program .meaning (now (self .entry)))
+            (Self·Program .meaning (now (self .exit))) ⌝ }
         ensures kept { λ _. ⌜ room (now (self .exit)) ≡ room (now (self .entry)) ⌝ };
 }

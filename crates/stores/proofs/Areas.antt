@@ -1,14 +1,17 @@
--- Byte areas: what a write at a place leaves, and what the records of an area read as after it.
+-- Byte areas: what a write at a place and a record taken out leave, and what the records of an area then read as.
 use mathlib.Core.Path.{_≡_, refl, sym, ap, _∙_}
 use mathlib.Core.List.{List, [], _∷_, _++_}
-use Prim.Native.Nat.{ℕ, zero, suc, _+_, _-_, _*_, _<_}
-use native.Mathlib.Nat.{add-zero, zero-add, add-comm, mul-zero, mul-suc}
+use Prim.Native.Nat.{ℕ, zero, suc, _+_, _-_, _*_, _<_, _≤_}
+use native.Mathlib.Nat.{add-zero, zero-add, add-comm, mul-zero, mul-suc, mul-add}
 use native.Mathlib.Omega.{arith}
 use lib.ListN.{length, take, drop, getD, set, replicate}
 use lib.Seq.{take-append-add, drop-append-add}
 use Rattle.std.proofs.shelf.Lists.{append-assoc, append-nil, length-append, length-push, length-set, length-replicate}
-use Rattle.std.proofs.shelf.Lists.{drop-at, drop-drop, drop-replicate, getD-drop}
-use Rattle.stores.specs.Areas.{put, numberAt, Layout, bytes, inUse, filled, Holds}
+use Rattle.std.specs.Holes.{removed, between}
+use Rattle.std.proofs.shelf.Lists.{length-take-le, length-drop, take-append-drop, replicate-append-replicate}
+use Rattle.std.proofs.shelf.Lists.{take-at, drop-at, drop-drop, drop-replicate, getD-drop}
+use Rattle.std.proofs.shelf.Edits.{length-removed}
+use Rattle.stores.specs.Areas.{put, takenOut, numberAt, Layout, bytes, inUse, filled, Holds}
 
 pub numberAt-drop : (n : ℕ) (bs : List ℕ) (i : ℕ) → numberAt (drop n bs) i ≡ numberAt bs (n + i)
 numberAt-drop n bs i =
@@ -98,6 +101,59 @@ module _ {X : Type 0} (l : Layout X) (law : Lawful l) where
       ∙ ap (λ r. l .write y ++ r) (put-behind xs rest x)
       ∙ sym (append-assoc (l .write y) (bytes l (xs ++ (x ∷ []))) (drop (l .width) rest))
 
+  length-bytes : (xs : List X) → length (bytes l xs) ≡ l .width * length xs
+  length-bytes [] = sym (mul-zero (l .width))
+  length-bytes (x ∷ xs) =
+      length-append (l .write x) (bytes l xs) ∙ ap (λ n. n + length (bytes l xs)) (law .wide x)
+      ∙ ap (λ n. l .width + n) (length-bytes xs) ∙ add-comm _ _ ∙ sym (mul-suc (l .width) (length xs))
+
+  bytes-append : (xs ys : List X) → bytes l (xs ++ ys) ≡ bytes l xs ++ bytes l ys
+  bytes-append [] ys = refl
+  bytes-append (x ∷ xs) ys =
+      ap (λ r. l .write x ++ r) (bytes-append xs ys) ∙ sym (append-assoc (l .write x) (bytes l xs) (bytes l ys))
+
+  -- the records before i, and the others with what lies behind
+  bytes-split : (xs : List X) (rest : List ℕ) (i : ℕ)
+      → bytes l xs ++ rest ≡ bytes l (take i xs) ++ (bytes l (drop i xs) ++ rest)
+  bytes-split xs rest i =
+      ap (λ ys. bytes l ys ++ rest) (sym (take-append-drop i xs))
+      ∙ ap (λ bs. bs ++ rest) (bytes-append (take i xs) (drop i xs))
+      ∙ append-assoc (bytes l (take i xs)) (bytes l (drop i xs)) rest
+
+  module _ (xs : List X) (rest : List ℕ) (i : ℕ) (h : i ≤ length xs) where
+    length-bytes-take : length (bytes l (take i xs)) ≡ l .width * i
+    length-bytes-take = length-bytes (take i xs) ∙ ap (λ n. l .width * n) (length-take-le i xs h)
+
+    take-bytes : take (l .width * i) (bytes l xs ++ rest) ≡ bytes l (take i xs)
+    take-bytes = ap (take (l .width * i)) (bytes-split xs rest i) ∙ take-at (bytes l (take i xs)) _ _ length-bytes-take
+
+    drop-bytes : drop (l .width * i) (bytes l xs ++ rest) ≡ bytes l (drop i xs) ++ rest
+    drop-bytes = ap (drop (l .width * i)) (bytes-split xs rest i) ∙ drop-at (bytes l (take i xs)) _ _ length-bytes-take
+
+  -- the records behind i
+  between-bytes : (xs : List X) (rest : List ℕ) (i : ℕ) → i < length xs
+      → between (l .width * (i + 1)) (l .width * length xs) (bytes l xs ++ rest) ≡ bytes l (drop (i + 1) xs)
+  between-bytes xs rest i h =
+      let w = l .width in
+      let n = length xs in
+      let behind = drop (i + 1) xs in
+      let m : (i + 1) + length behind ≡ n = simp length-drop (omega arith) in
+      let wide : w * n ≡ w * (i + 1) + w * length behind = ap (λ k. w * k) (sym m) ∙ mul-add w (i + 1) (length behind) in
+      let long : length (bytes l behind) ≡ w * n - w * (i + 1) = omega (arith, length-bytes behind) in
+      ap (take (w * n - w * (i + 1))) (drop-bytes xs rest (i + 1) (omega arith)) ∙ take-at (bytes l behind) rest _ long
+
+  pub takenOut-bytes : (xs : List X) (rest : List ℕ) (i : ℕ) → i < length xs
+      → takenOut (l .width) (length xs) i (bytes l xs ++ rest) ≡ bytes l (removed xs i) ++ (replicate (l .width) 0 ++ rest)
+  takenOut-bytes xs rest i h =
+      let w = l .width in
+      let n = length xs in
+      let next : i + 1 ≡ suc i = omega arith in
+      let past : drop (w * n) (bytes l xs ++ rest) ≡ rest = drop-at (bytes l xs) rest (w * n) (length-bytes xs) in
+      rw (take-bytes xs rest i (omega arith), between-bytes xs rest i h, past)
+      (sym (append-assoc (bytes l (take i xs)) (bytes l (drop (i + 1) xs)) (replicate w 0 ++ rest))
+      ∙ ap (λ bs. bs ++ (replicate w 0 ++ rest)) (sym (bytes-append (take i xs) (drop (i + 1) xs)))
+      ∙ ap (λ k. bytes l (take i xs ++ drop k xs) ++ (replicate w 0 ++ rest)) next)
+
   pub written : (n k : ℕ) (bs : List ℕ) (xs : List X) → length xs ≡ n → bs ≡ bytes l xs ++ replicate k 0
       → Written l n bs xs
   written n k bs xs e h =
@@ -136,3 +192,18 @@ module _ {X : Type 0} (l : Layout X) (law : Lawful l) where
         let put-is : put bs (l .width * i) (l .write x) ≡ bytes l (set xs i x) ++ replicate k 0 =
         ap (λ r. put r (l .width * i) (l .write x)) h ∙ put-record xs (replicate k 0) i x inside in
         written n k _ _ (length-set xs i x ∙ length-inUse l n bs) (e ∙ put-is)
+
+  -- record i taken out of an area of n records, which leaves m
+  pub record-taken : (n m : ℕ) (bs : List ℕ) → Holds l n bs → n ≡ suc m → (i : ℕ) (new : List ℕ) → i < n
+      → new ≡ takenOut (l .width) n i bs → Written l m new (removed (inUse l n bs) i)
+  record-taken n m bs h one i new below e =
+      let xs = inUse l n bs in
+      let k = length bs - length (bytes l xs) in
+      let count = length-inUse l n bs in
+      let inside : i < length xs = omega arith in
+      let taken-is : takenOut (l .width) n i bs ≡ bytes l (removed xs i) ++ replicate (l .width + k) 0 =
+      ap (takenOut (l .width) n i) h
+      ∙ ap (λ c. takenOut (l .width) c i (bytes l xs ++ replicate k 0)) (sym count)
+      ∙ takenOut-bytes xs (replicate k 0) i inside
+      ∙ ap (λ r. bytes l (removed xs i) ++ r) (replicate-append-replicate (l .width) k 0) in
+      written m (l .width + k) new (removed xs i) (let fewer = length-removed xs i inside in omega arith) (e ∙ taken-is)

@@ -1,19 +1,25 @@
 -- What a write to one of a card's tables does to the program that the card holds.
-use mathlib.Core.Path.{_≡_, refl, ap, _∙_}
+use mathlib.Core.Path.{_≡_, refl, sym, ap, _∙_}
 use mathlib.Core.List.{List, [], _∷_, _++_}
-use Prim.Native.Nat.{ℕ, _+_, _<_}
+use Prim.Native.Nat.{ℕ, _+_, _<_, _≤_}
 use lib.ListN.{length, take, getD, set}
 use lib.Seq.{take-set-lt}
-use Rattle.std.proofs.shelf.Lists.{take-more-set, getD-take}
-use Rattle.program.specs.declared.Kind.the-variants.{Open}
+use Rattle.std.specs.Holes.{removed}
+use Rattle.std.proofs.shelf.Lists.{take-more-set, take-take, getD-take, length-set}
+use Rattle.program.specs.declared.Kind.the-variants.{Open, Silent}
 use Rattle.program.specs.declared.Stage.{Stage}
 use Rattle.program.specs.declared.Move.{Move}
 use Rattle.program.specs.Meaning.{noStage}
-use Rattle.program.specs.Edits.{withStage, withMarks, withMove}
+use Rattle.program.specs.Edits.{withStage, withMarks, withMove, withCut}
 use Rattle.program.proofs.Doing.{same-prog}
 use Rattle.stores.specs.declared.card.tables.StageTable.{StageTable}
 use Rattle.stores.specs.declared.card.tables.MoveTable.{MoveTable}
+use Rattle.stores.specs.declared.allowed.Pieces.{Pieces}
+use Rattle.stores.specs.declared.joint.Joint.{Joint}
+use Rattle.stores.specs.Allowed.{CutAllowed}
 use Rattle.stores.specs.Cards.{cardProg}
+use Rattle.stores.proofs.Pieces.{pieces-withCut}
+use Rattle.stores.proofs.Joints.{joined}
 
 abbrev stages : ℕ → List Stage → StageTable
 stages n xs = record { count = n; records = xs }
@@ -35,3 +41,22 @@ module _ (n k : ℕ) (ss : List Stage) (ms : List Move) where
   pub card-laid : (s d t : ℕ) (r : Move) → k < length ms → r ≡ record { leaves = s; minutes = d; enters = t }
       → cardProg (stages n ss) (moves (k + 1) (set ms k r)) ≡ withMove (cardProg (stages n ss) (moves k ms)) s d t
   card-laid s d t r h e = same-prog _ _ refl (take-more-set _ _ _ h ∙ ap (λ v. take k ms ++ (v ∷ [])) e)
+
+  pub card-cut : (i a : ℕ) (r : Pieces) → CutAllowed (cardProg (stages n ss) (moves k ms)) i a r → i < k
+      → n < length ss → k < length ms
+      → cardProg (stages (n + 1) (set ss n (record { marks = 0; kind = Silent })))
+      (moves (k + 1) (set (set ms i (r .first)) k (r .second)))
+      ≡ withCut (cardProg (stages n ss) (moves k ms)) i a
+  card-cut i a r allowed below hs hm =
+      let room : k < length (set ms i (r .first)) = simp length-set hm in
+      pieces-withCut _ _ i a r allowed (take-more-set _ _ _ hs)
+      (take-more-set (set ms i (r .first)) k (r .second) room
+      ∙ ap (λ xs. xs ++ (r .second ∷ [])) (take-set-lt k ms i (r .first) below))
+
+  -- the whole is written over the move in, and then the move out is taken out
+  pub card-joined : (j : Joint) (new : MoveTable) → j .stage ≤ n → j .into < k
+      → take (new .count) (new .records) ≡ removed (take k (set ms (j .into) (j .whole))) (j .«out_of»)
+      → cardProg (stages (j .stage) ss) new ≡ joined (cardProg (stages n ss) (moves k ms)) j
+  card-joined j new some below e =
+      same-prog _ _ (sym (take-take (j .stage) n ss some))
+      (e ∙ ap (λ xs. removed xs (j .«out_of»)) (take-set-lt k ms (j .into) (j .whole) below))

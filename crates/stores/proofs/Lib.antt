@@ -1,5 +1,8 @@
 pub mod Tables
+pub mod Gaps
 pub mod Kept
+pub mod Pieces
+pub mod Joints
 pub mod Cards
 pub mod Areas
 pub mod Records

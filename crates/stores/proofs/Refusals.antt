@@ -7,10 +7,11 @@ use Rattle.std.specs.declared.result.Result.the-variants.{Ok, Err}
 use Rattle.program.specs.declared.EditFault.{EditFault}
 use Rattle.program.specs.declared.EditFault.the-variants.{StagesFull, MovesFull}
 use Rattle.program.specs.declared.Move.{Move}
-use Rattle.program.specs.Meaning.{Prog, mostMinutes}
-use Rattle.program.specs.Edits.{Caps, Out, Does, refused, openStep, layStep, withMove}
+use Rattle.program.specs.Meaning.{Prog, moveAt, mostMinutes}
+use Rattle.program.specs.Edits.{Caps, Out, Does, refused, openStep, layStep, cutStep, withMove}
 use Rattle.program.proofs.Doing.{lays}
-use Rattle.stores.specs.Allowed.{LayAllowed}
+use Rattle.stores.specs.declared.allowed.Pieces.{Pieces}
+use Rattle.stores.specs.Allowed.{LayAllowed, CutAllowed}
 
 pub refuses : (o : Out) (e : EditFault) (p : Prog) → o ≡ refused e p → Does o (Err e) p
 refuses o e p h = rw h (record { answers = refl; leaves = refl })
@@ -35,3 +36,22 @@ pub allowed-lays : (caps : Caps) (p q : Prog) (s d t : ℕ) (r : Move) (n : ℕ)
     → length (p .moves) ≡ n → n < caps .moves → q ≡ withMove p s d t → Does (layStep caps p s d t) (Ok n) q
 allowed-lays caps p q s d t r n a =
     lays caps p q s d t n (a .leaves-stage) (a .enters-stage) (a .leaves-open) (a .enters-open) (a .short)
+
+pub cut-stages-full : (caps : Caps) (p : Prog) (k a : ℕ) (r : Pieces) → CutAllowed p k a r
+    → caps .stages ≤ length (p .stages) → Does (cutStep caps p k a) (Err StagesFull) p
+cut-stages-full caps p k a r allowed h =
+    refuses _ _ p (rw (
+      lt-ltb k (length (p .moves)) (allowed .real),
+      le-leb a (moveAt p k .minutes) (allowed .inside),
+      le-ltb (length (p .stages)) (caps .stages) h,
+    ))
+
+pub cut-moves-full : (caps : Caps) (p : Prog) (k a : ℕ) (r : Pieces) → CutAllowed p k a r
+    → length (p .stages) < caps .stages → caps .moves ≤ length (p .moves) → Does (cutStep caps p k a) (Err MovesFull) p
+cut-moves-full caps p k a r allowed hs h =
+    refuses _ _ p (rw (
+      lt-ltb k (length (p .moves)) (allowed .real),
+      le-leb a (moveAt p k .minutes) (allowed .inside),
+      lt-ltb (length (p .stages)) (caps .stages) hs,
+      le-ltb (length (p .moves)) (caps .moves) h,
+    ))

@@ -1,7 +1,7 @@
 -- What a program allows before a store looks for room: an edit is allowed, or every store refuses it.
 use mathlib.Core.Path.{_≡_}
 use mathlib.Core.Bool.{true}
-use Prim.Native.Nat.{ℕ, _<_, _≤_}
+use Prim.Native.Nat.{ℕ, _-_, _<_, _≤_}
 use lib.ListN.{length}
 use Rattle.std.specs.declared.result.Result.{Result}
 use Rattle.std.specs.Results.{Cases}
@@ -9,7 +9,8 @@ use Rattle.program.specs.declared.Stage.{Stage}
 use Rattle.program.specs.declared.Move.{Move}
 use Rattle.program.specs.declared.EditFault.{EditFault}
 use Rattle.program.specs.Meaning.{Prog, Fits, stageAt, moveAt, mostMinutes}
-use Rattle.program.specs.Edits.{Caps, isOpen, markStep, layStep, refused}
+use Rattle.program.specs.Edits.{Caps, isOpen, leads, markStep, layStep, cutStep, refused}
+use Rattle.stores.specs.declared.allowed.Pieces.{Pieces}
 
 -- Each move has both ends among the stages, and is not too long.
 abbrev pub Ends : Prog → Type 0
@@ -35,3 +36,13 @@ pub record LayAllowed (p : Prog) (s d t : ℕ) (r : Move) : Type 0 where
 
 abbrev pub LayTested : Prog → ℕ → ℕ → ℕ → Result Move EditFault → Type 0
 LayTested p s d t r = Cases r (LayAllowed p s d t) (λ e. (caps : Caps) → layStep caps p s d t ≡ refused e p)
+
+-- There is a move k, it takes a minutes at least, and r is what a cut there makes of it, joined by a new last stage.
+pub record CutAllowed (p : Prog) (k a : ℕ) (r : Pieces) : Type 0 where
+  pub real : k < length (p .moves)
+  pub inside : a ≤ moveAt p k .minutes
+  pub first : r .first ≡ leads (moveAt p k .leaves) a (length (p .stages))
+  pub second : r .second ≡ leads (length (p .stages)) (moveAt p k .minutes - a) (moveAt p k .enters)
+
+abbrev pub CutTested : Prog → ℕ → ℕ → Result Pieces EditFault → Type 0
+CutTested p k a r = Cases r (CutAllowed p k a) (λ e. (caps : Caps) → cutStep caps p k a ≡ refused e p)

@@ -3,11 +3,22 @@ use mathlib.Core.Path.{_≡_}
 use mathlib.Core.List.{List, [], _∷_, _++_}
 use Prim.Native.Nat.{ℕ, zero, suc, _+_, _-_, _*_, _/_, _%_}
 use lib.ListN.{length, getD, take, drop, replicate}
+use lib.Seq.{paste}
+use Rattle.std.specs.Holes.{between}
 use Rattle.std.specs.Joined.{joined}
 
 -- cs written over bs from a place on
 abbrev pub put : List ℕ → ℕ → List ℕ → List ℕ
 put bs at cs = take at bs ++ (cs ++ drop (at + length cs) bs)
+
+-- xs, with what lies from `at + by` on moved down to `at`, as far as place i
+abbrev pub shifted : {X : Type 0} → List X → ℕ → ℕ → ℕ → List X
+shifted xs at by i = paste xs at (drop (at + by) xs) (i - at)
+
+-- record i of n taken out, where each is w bytes wide: those before it stay, later ones stand one place lower, zeros
+-- take the last place, and what lies behind stays
+abbrev pub takenOut : ℕ → ℕ → ℕ → List ℕ → List ℕ
+takenOut w n i bs = take (w * i) bs ++ (between (w * (i + 1)) (w * n) bs ++ (replicate w 0 ++ drop (w * n) bs))
 
 -- a number as two bytes, the lower first
 abbrev pub lowHigh : ℕ → List ℕ

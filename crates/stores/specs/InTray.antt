@@ -5,7 +5,8 @@ use denote.Ref.{now, name}
 use Rattle.std.specs.declared.result.Result.{Result}
 use Rattle.program.specs.declared.EditFault.{EditFault}
 use Rattle.program.specs.Meaning.{Prog}
-use Rattle.program.specs.Edits.{Caps, Does, openStep, markStep, layStep}
+use Rattle.program.specs.Edits.{Caps, Does, openStep, markStep, layStep, cutStep, joinStep}
+use Rattle.program.specs.Tidy.{Tidy, StaysTidy}
 use Rattle.stores.specs.declared.tray.Tray.{Tray}
 use Rattle.stores.specs.Trays.{areasProg, areasRoom, SameLengths}
 
@@ -24,6 +25,16 @@ MarkDone t s m r u = Does (markStep (trayMeaning t) s m) r (trayMeaning u)
 
 abbrev pub LayDone : Tray → ℕ → ℕ → ℕ → Result ℕ EditFault → Tray → Type 0
 LayDone t s d e r u = Does (layStep (trayRoom t) (trayMeaning t) s d e) r (trayMeaning u)
+
+abbrev pub CutDone : Tray → ℕ → ℕ → Result ℕ EditFault → Tray → Type 0
+CutDone t k a r u = Does (cutStep (trayRoom t) (trayMeaning t) k a) r (trayMeaning u)
+
+abbrev pub JoinDone : Tray → Result ℕ EditFault → Tray → Type 0
+JoinDone t r u = Tidy (trayMeaning t) → Does (joinStep (trayMeaning t)) r (trayMeaning u)
+
+-- A tidy program in t is a tidy program in u.
+abbrev pub KeepsTidy : Tray → Tray → Type 0
+KeepsTidy t u = StaysTidy (trayMeaning t) (trayMeaning u)
 
 -- Two moments of a tray: it holds the same loan, of areas that are as long as they were.
 pub record SameLoan (t u : Tray) : Type 0 where

@@ -1,4 +1,6 @@
 pub mod Allowed
+pub mod MoveEnds
+pub mod Joints
 pub mod Cards
 pub mod Areas
 pub mod Records

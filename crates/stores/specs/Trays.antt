@@ -7,7 +7,7 @@ use Rattle.program.specs.declared.Move.{Move}
 use Rattle.program.specs.Meaning.{Prog, mostStages, mostMoves}
 use Rattle.program.specs.Edits.{Caps}
 use Rattle.stores.specs.declared.tray.areas.Areas.{Areas}
-use Rattle.stores.specs.Areas.{put, bytes, inUse, filled}
+use Rattle.stores.specs.Areas.{put, takenOut, bytes, inUse, filled}
 use Rattle.stores.specs.Records.{stageRecord, moveRecord, stageLayout, moveLayout}
 
 -- n stages and k moves in use
@@ -43,5 +43,17 @@ pub record StagePut (before : Areas) (n : ℕ) (s : Stage) (after : Areas) : Typ
 -- The move of number n is written, and no other byte changes.
 pub record MovePut (before : Areas) (n : ℕ) (m : Move) (after : Areas) : Type 0 where
   pub written : vec-items (after .moves) ≡ put (vec-items (before .moves)) (8 * n) (moveRecord m)
+  pub long : vec-len (after .moves) ≡ vec-len (before .moves)
+  pub stages : after .stages ≡ before .stages
+
+-- Stage i of n is taken out, and no other byte changes.
+pub record StageTaken (before : Areas) (n i : ℕ) (after : Areas) : Type 0 where
+  pub written : vec-items (after .stages) ≡ takenOut 4 n i (vec-items (before .stages))
+  pub long : vec-len (after .stages) ≡ vec-len (before .stages)
+  pub moves : after .moves ≡ before .moves
+
+-- Move i of n is taken out, and no other byte changes.
+pub record MoveTaken (before : Areas) (n i : ℕ) (after : Areas) : Type 0 where
+  pub written : vec-items (after .moves) ≡ takenOut 8 n i (vec-items (before .moves))
   pub long : vec-len (after .moves) ≡ vec-len (before .moves)
   pub stages : after .stages ≡ before .stages

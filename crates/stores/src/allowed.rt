@@ -1,5 +1,5 @@
 // What a program allows before a store looks for room: the refusals of an edit, in their order.
-ghost use Rattle.stores.specs.Allowed.{MarkTested, LayTested};
+ghost use Rattle.stores.specs.Allowed.{MarkTested, LayTested, CutTested};
 use program::EditFault;
 use program::Kind;
 use program::MOST_MINUTES;
@@ -48,4 +48,43 @@ pub fn allowed_move<P: Program>(
         minutes: minutes as u16,
         enters: enters as u16,
     })
+}
+
+// What a cut appends to the stages.
+pub const SILENT: Stage = Stage {
+    marks: 0,
+    kind: Kind::Silent,
+};
+
+// The two moves that a cut makes of one.
+#[derive(Clone, Copy)]
+pub struct Pieces {
+    pub first: Move,
+    pub second: Move,
+}
+
+// The pieces of move k, where `cut` may cut it `place` minutes after it begins, at a new last stage.
+pub fn allowed_pieces<P: Program>(program: &P, k: usize, place: u32) -> Result<Pieces, EditFault>
+    ensures { λ r. ⌜ CutTested (meaning (now (program .entry))) k place r ⌝ }
+{
+    if k >= program.move_count() {
+        return Err(EditFault::NoMove);
+    }
+    let whole = program.move_at(k);
+    if place > whole.minutes as u32 {
+        return Err(EditFault::TooLong);
+    }
+    let minutes = place as u16;
+    let stage = program.stage_count() as u16;
+    let first = Move {
+        leaves: whole.leaves,
+        minutes,
+        enters: stage,
+    };
+    let second = Move {
+        leaves: stage,
+        minutes: whole.minutes - minutes,
+        enters: whole.enters,
+    };
+    Ok(Pieces { first, second })
 }

@@ -3,13 +3,17 @@ ghost use mathlib.Core.Path.{_≡_};
 ghost use Prim.Native.Nat.{_<_, _≤_};
 ghost use Rattle.program.specs.Meaning.{empty};
 ghost use Rattle.stores.specs.Cards.{cardProg, cardCaps};
+use crate::allowed::SILENT;
 use crate::allowed::allowed_move;
+use crate::allowed::allowed_pieces;
 use crate::allowed::open_stage;
 use crate::card::Card;
 use crate::card::tables::CARD_MOVES;
 use crate::card::tables::CARD_STAGES;
 use crate::card::tables::MoveTable;
 use crate::card::tables::StageTable;
+use crate::card::tables::take_out;
+use crate::joint::find_joint;
 use program::EditFault;
 use program::Kind;
 use program::Move;
@@ -110,5 +114,31 @@ pub impl Store for Card as CardStore {
         self.moves.records[n] = record;
         self.moves.count = n + 1;
         Ok(n)
+    }
+
+    fn cut(&mut self, k: usize, place: u32) -> Result<usize, EditFault> {
+        let pieces = allowed_pieces(self, k, place)?;
+        let stage = self.stages.count;
+        if stage >= CARD_STAGES {
+            return Err(EditFault::StagesFull);
+        }
+        let n = self.moves.count;
+        if n >= CARD_MOVES {
+            return Err(EditFault::MovesFull);
+        }
+        self.moves.records[k] = pieces.first;
+        self.moves.records[n] = pieces.second;
+        self.moves.count = n + 1;
+        self.stages.records[stage] = SILENT;
+        self.stages.count = stage + 1;
+        Ok(stage)
+    }
+
+    fn join(&mut self) -> Result<usize, EditFault> {
+        let joint = find_joint(self)?;
+        self.moves.records[joint.into] = joint.whole;
+        take_out(&mut self.moves, joint.out_of);
+        self.stages.count = joint.stage;
+        Ok(joint.stage)
     }
 }

@@ -2,10 +2,14 @@
 ghost use mathlib.Core.Path.{_≡_};
 ghost use denote.Ref.{now, name};
 ghost use Rattle.program.specs.Meaning.{empty};
-ghost use Rattle.stores.specs.InTray.{trayMeaning, trayRoom, OpenDone, MarkDone, LayDone, SameLoan};
+ghost use Rattle.stores.specs.InTray.{trayMeaning, trayRoom, SameLoan, KeepsTidy};
+ghost use Rattle.stores.specs.InTray.{OpenDone, MarkDone, LayDone, CutDone, JoinDone};
 ghost use Rattle.stores.specs.Trays.{Image, SameLengths};
+use crate::allowed::SILENT;
 use crate::allowed::allowed_move;
+use crate::allowed::allowed_pieces;
 use crate::allowed::open_stage;
+use crate::joint::find_joint;
 use crate::tray::Tray;
 use crate::tray::areas::Areas;
 use crate::tray::bytes::clear;
@@ -15,6 +19,8 @@ use crate::tray::records::put_move;
 use crate::tray::records::put_stage;
 use crate::tray::records::read_move;
 use crate::tray::records::read_stage;
+use crate::tray::records::take_move;
+use crate::tray::records::take_stage;
 use program::EditFault;
 use program::Kind;
 use program::MOST_MOVES;
@@ -93,6 +99,7 @@ pub impl<'a> Store for Tray<'a> as TrayStore {
 
     fn open(&mut self, marks: u16) -> Result<usize, EditFault>
         ensures does { λ r. ⌜ OpenDone (now (self .entry)) marks r (now (self .exit)) ⌝ }
+        ensures tidy { λ _. ⌜ KeepsTidy (now (self .entry)) (now (self .exit)) ⌝ }
         ensures kept { λ _. ⌜ trayRoom (now (self .exit)) ≡ trayRoom (now (self .entry)) ⌝ }
         ensures stays { λ _. ⌜ SameLoan (now (self .entry)) (now (self .exit)) ⌝ }
     {
@@ -111,6 +118,7 @@ pub impl<'a> Store for Tray<'a> as TrayStore {
 
     fn mark(&mut self, stage: usize, marks: u16) -> Result<usize, EditFault>
         ensures does { λ r. ⌜ MarkDone (now (self .entry)) stage marks r (now (self .exit)) ⌝ }
+        ensures tidy { λ _. ⌜ KeepsTidy (now (self .entry)) (now (self .exit)) ⌝ }
         ensures kept { λ _. ⌜ trayRoom (now (self .exit)) ≡ trayRoom (now (self .entry)) ⌝ }
         ensures stays { λ _. ⌜ SameLoan (now (self .entry)) (now (self .exit)) ⌝ }
     {
@@ -125,6 +133,7 @@ pub impl<'a> Store for Tray<'a> as TrayStore {
 
     fn lay(&mut self, leaves: usize, minutes: u32, enters: usize) -> Result<usize, EditFault>
         ensures does { λ r. ⌜ LayDone (now (self .entry)) leaves minutes enters r (now (self .exit)) ⌝ }
+        ensures tidy { λ _. ⌜ KeepsTidy (now (self .entry)) (now (self .exit)) ⌝ }
         ensures kept { λ _. ⌜ trayRoom (now (self .exit)) ≡ trayRoom (now (self .entry)) ⌝ }
         ensures stays { λ _. ⌜ SameLoan (now (self .entry)) (now (self .exit)) ⌝ }
     {
@@ -136,5 +145,45 @@ pub impl<'a> Store for Tray<'a> as TrayStore {
         put_move(self.areas, n, record);
         self.move_count = n + 1;
         Ok(n)
+    }
+
+    fn cut(&mut self, k: usize, place: u32) -> Result<usize, EditFault>
+        ensures does { λ r. ⌜ CutDone (now (self .entry)) k place r (now (self .exit)) ⌝ }
+        ensures tidy { λ _. ⌜ KeepsTidy (now (self .entry)) (now (self .exit)) ⌝ }
+        ensures kept { λ _. ⌜ trayRoom (now (self .exit)) ≡ trayRoom (now (self .entry)) ⌝ }
+        ensures stays { λ _. ⌜ SameLoan (now (self .entry)) (now (self .exit)) ⌝ }
+    {
+        let pieces = allowed_pieces(self, k, place)?;
+        let stage = self.stage_count;
+        if stage >= self.stage_capacity() {
+            return Err(EditFault::StagesFull);
+        }
+        let n = self.move_count;
+        if n >= self.move_capacity() {
+            return Err(EditFault::MovesFull);
+        }
+        put_move(self.areas, k, pieces.first);
+        put_move(self.areas, n, pieces.second);
+        self.move_count = n + 1;
+        put_stage(self.areas, stage, SILENT);
+        self.stage_count = stage + 1;
+        Ok(stage)
+    }
+
+    fn join(&mut self) -> Result<usize, EditFault>
+        ensures does { λ r. ⌜ JoinDone (now (self .entry)) r (now (self .exit)) ⌝ }
+        ensures tidy { λ _. ⌜ KeepsTidy (now (self .entry)) (now (self .exit)) ⌝ }
+        ensures kept { λ _. ⌜ trayRoom (now (self .exit)) ≡ trayRoom (now (self .entry)) ⌝ }
+        ensures stays { λ _. ⌜ SameLoan (now (self .entry)) (now (self .exit)) ⌝ }
+    {
+        let joint = find_joint(self)?;
+        let stages = self.stage_count;
+        let n = self.move_count;
+        put_move(self.areas, joint.into, joint.whole);
+        take_move(self.areas, n, joint.out_of);
+        self.move_count = n - 1;
+        take_stage(self.areas, stages, joint.stage);
+        self.stage_count = joint.stage;
+        Ok(joint.stage)
     }
 }

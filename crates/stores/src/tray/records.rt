@@ -5,12 +5,13 @@ ghost use mathlib.Core.Path.{_≡_};
 ghost use Prim.Native.Nat.{_+_, _*_, _<_, _≤_};
 ghost use lib.ListN.{drop};
 ghost use Rattle.std.specs.Of.Vec.{vec-items, vec-len};
-ghost use Rattle.stores.specs.Trays.{StagePut, MovePut};
+ghost use Rattle.stores.specs.Trays.{StagePut, MovePut, StageTaken, MoveTaken};
 ghost use Rattle.stores.specs.Records.{kindByte, readKind, stageRecord, moveRecord, readStage, readMove};
 use crate::tray::areas::Areas;
 use crate::tray::bytes::low_high;
 use crate::tray::bytes::number_at;
 use crate::tray::bytes::put;
+use crate::tray::bytes::take_out;
 use program::Kind;
 use program::Move;
 use program::Stage;
@@ -76,6 +77,22 @@ pub fn put_move(areas: &mut Areas, n: usize, laid: Move)
     ensures { λ _. ⌜ MovePut (now (areas .entry)) n laid (now (areas .exit)) ⌝ }
 {
     put(&mut areas.moves, MOVE_BYTES * n, &move_record(laid));
+}
+
+// Takes out stage k of `count`.
+pub fn take_stage(areas: &mut Areas, count: usize, k: usize)
+    requires { ⌜ k < count ⌝ ∗ ⌜ 4 * count ≤ vec-len (now areas .stages) ⌝ }
+    ensures { λ _. ⌜ StageTaken (now (areas .entry)) count k (now (areas .exit)) ⌝ }
+{
+    take_out(&mut areas.stages, STAGE_BYTES, count, k);
+}
+
+// Takes out move k of `count`.
+pub fn take_move(areas: &mut Areas, count: usize, k: usize)
+    requires { ⌜ k < count ⌝ ∗ ⌜ 8 * count ≤ vec-len (now areas .moves) ⌝ }
+    ensures { λ _. ⌜ MoveTaken (now (areas .entry)) count k (now (areas .exit)) ⌝ }
+{
+    take_out(&mut areas.moves, MOVE_BYTES, count, k);
 }
 
 // The stage of number n.

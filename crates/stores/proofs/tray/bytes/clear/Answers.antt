@@ -1,25 +1,22 @@
-use mathlib.Core.Path.{_≡_, ap, _∙_}
-use Prim.Native.Nat.{_<_, _≤_}
+use mathlib.Core.Path.{ap, _∙_}
+use mathlib.Core.List.{List}
+use Prim.Native.Nat.{ℕ, _+_, _≤_}
 use native.Mathlib.Omega.{arith}
-use lib.ListN.{length, set}
-use Rattle.std.specs.Of.Vec.{vec-len}
-use Rattle.std.proofs.shelf.Edits.{fill-more}
-use Rattle.std.proofs.shelf.Lists.{drop-all, append-nil}
+use lib.ListN.{length, replicate}
+use Rattle.std.proofs.shelf.Lists.{drop-all, append-nil, length-replicate}
 use Rattle.stores.proofs.tray.bytes.clear.Needs as need
-
-pub loop-i-again : need.loop-i-again
-loop-i-again c =
-    let l = c .loop-i in
-    let h : l .i < length (c .args .area .now .items) = omega (arith, c .args .area .now .ok .0) in
-    (l .inv .0, ap (λ xs. set xs (l .i) 0) (l .inv .1) ∙ fill-more (l .i) 0 _ h)
 
 pub returns : need.returns
 returns c =
-    let l = c .loop-i in
     let bs = c .args .area .now .items in
-    let all : l .i ≡ vec-len (c .args .area .now) = omega arith in
-    let past : length bs ≤ vec-len (c .args .area .now) = omega (arith, c .args .area .now .ok .0) in
+    let n = c .len-n .result in
+    let zeros : List ℕ = replicate n 0 in
+    let all = c .len-n .ensures in
+    let past : length bs ≤ 0 + length zeros =
+    omega (arith, c .args .area .now .ok .0, length-replicate {A = ℕ} n 0) in
     record {
-      items = l .inv .1 ∙ rw (all, drop-all (vec-len (c .args .area .now)) bs past, append-nil);
-      len = l .inv .0;
+      items =
+          c .zero .ensures .items
+          ∙ rw (drop-all (0 + length zeros) bs past) (append-nil zeros ∙ ap (λ m. replicate m 0) all);
+      len = c .zero .ensures .len;
     }

@@ -4,6 +4,8 @@ use native.Mathlib.Omega.{arith}
 use lib.ListN.{length}
 use Rattle.std.proofs.shelf.Lists.{length-set, length-take-le}
 use Rattle.std.proofs.shelf.Results.{err-from-errBy}
+use Rattle.program.specs.declared.edit.Edit.the-variants as edit
+use Rattle.program.proofs.Kept.{does-tidy}
 use Rattle.stores.specs.Cards.{cardCaps}
 use Rattle.stores.proofs.Cards.{card-laid}
 use Rattle.stores.proofs.Kept.{ends-kept-by-lay}
@@ -14,7 +16,7 @@ pub returns-in-Break-record : need.returns-in-Break-record
 returns-in-Break-record c =
     let p = err-from-errBy (c .from-residual .result) (c .from-residual .ensures .1) in
     rw (p .1, p .2, c .in-Break-record .ensures tt cardCaps)
-    (record { does = record { answers = refl; leaves = refl }; kept = refl })
+    (record { does = record { answers = refl; leaves = refl }; tidy = λ t. t; kept = refl })
 
 pub ghost-self : need.ghost-self
 ghost-self c =
@@ -32,4 +34,6 @@ returns c =
     let n = length-take-le (card .moves .count) (card .moves .records) (omega arith) in
     let h : card .moves .count < length (card .moves .records) = omega arith in
     let laid = card-laid (card .stages .count) _ (card .stages .records) _ _ _ _ _ h (allowed .is) in
-    record { does = allowed-lays cardCaps _ _ _ _ _ _ _ allowed n (omega arith) laid; kept = refl }
+    let does = allowed-lays cardCaps _ _ _ _ _ _ _ allowed n (omega arith) laid in
+    let tidy = does-tidy cardCaps _ _ (edit.Lay (c .args .leaves) (c .args .minutes) (c .args .enters)) _ (λ _. does) in
+    record { does = does; tidy = tidy; kept = refl }

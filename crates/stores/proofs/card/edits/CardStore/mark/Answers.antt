@@ -2,7 +2,10 @@ use mathlib.Core.Path.{refl}
 use Prim.Native.Nat.{_<_}
 use native.Mathlib.Omega.{arith}
 use Rattle.std.proofs.shelf.Lists.{length-take}
+use Rattle.program.specs.declared.edit.Edit.the-variants as edit
 use Rattle.program.proofs.Doing.{marks-one}
+use Rattle.program.proofs.Kept.{does-tidy}
+use Rattle.stores.specs.Cards.{cardCaps}
 use Rattle.stores.proofs.Cards.{card-marked}
 use Rattle.stores.proofs.card.edits.CardStore.mark.Needs as need
 
@@ -14,4 +17,5 @@ returns c =
     let moves = card .moves in
     let marked = card-marked _ (moves .count) (card .stages .records) (moves .records) _ (c .args .marks) h in
     let does = marks-one _ _ _ _ (allowed .stage) (allowed .shown) marked in
-    record { does = simp (c .set-marks .ensures) does; kept = refl }
+    let tidy = does-tidy cardCaps _ _ (edit.Mark (c .args .stage) (c .args .marks)) _ (λ _. does) in
+    simp (c .set-marks .ensures) (record { does = does; tidy = tidy; kept = refl })

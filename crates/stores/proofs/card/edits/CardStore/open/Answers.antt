@@ -3,7 +3,9 @@ use Prim.Native.Nat.{_<_}
 use native.Mathlib.Omega.{arith}
 use lib.ListN.{length}
 use Rattle.std.proofs.shelf.Lists.{length-set, length-take-le}
+use Rattle.program.specs.declared.edit.Edit.the-variants as edit
 use Rattle.program.proofs.Doing.{opens}
+use Rattle.program.proofs.Kept.{does-tidy}
 use Rattle.stores.specs.Cards.{cardCaps}
 use Rattle.stores.proofs.Cards.{card-opened}
 use Rattle.stores.proofs.Kept.{ends-kept-by-open}
@@ -23,4 +25,5 @@ returns c =
     let h : card .stages .count < length (card .stages .records) = omega arith in
     let opened = card-opened _ (card .moves .count) _ (card .moves .records) (c .args .marks) h in
     let n = length-take-le (card .stages .count) (card .stages .records) (omega arith) in
-    record { does = opens cardCaps _ _ _ _ n (omega arith) opened; kept = refl }
+    let does = opens cardCaps _ _ _ _ n (omega arith) opened in
+    record { does = does; tidy = does-tidy cardCaps _ _ (edit.Open (c .args .marks)) _ (λ _. does); kept = refl }

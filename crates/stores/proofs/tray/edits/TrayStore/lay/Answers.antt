@@ -1,6 +1,8 @@
 use mathlib.Core.Path.{refl}
 use native.Mathlib.Omega.{arith}
 use Rattle.std.proofs.shelf.Results.{err-from-errBy}
+use Rattle.program.specs.declared.edit.Edit.the-variants as edit
+use Rattle.program.proofs.Kept.{does-tidy}
 use Rattle.stores.specs.Records.{moveLayout}
 use Rattle.stores.specs.Trays.{areasRoom}
 use Rattle.stores.proofs.Areas.{length-inUse}
@@ -16,6 +18,7 @@ returns-in-Break-record c =
     rw (p .1, p .2, c .in-Break-record .ensures tt (areasRoom (tray .areas .now)))
     (record {
       does = record { answers = refl; leaves = refl };
+      tidy = λ t. t;
       kept = refl;
       stays = record { loan = refl; long = record { stages = refl; moves = refl } };
     })
@@ -28,6 +31,7 @@ returns-then-n-move-capacity c =
     let room = c .move-capacity .ensures in
     record {
       does = lay-full (areasRoom (tray .areas .now)) _ _ _ _ _ allowed (omega (arith, n, room));
+      tidy = λ t. t;
       kept = refl;
       stays = record { loan = refl; long = record { stages = refl; moves = refl } };
     }
@@ -52,8 +56,12 @@ returns c =
     let long = move-put-long _ _ _ _ put in
     let n = length-inUse moveLayout (tray .«move_count») (tray .areas .now .moves .items) in
     let room = c .move-capacity .ensures in
+    let caps = areasRoom (tray .areas .now) in
+    let does = allowed-lays caps _ _ _ _ _ _ _ allowed n (omega (arith, room)) (laid .is) in
+    let made = edit.Lay (c .args .leaves) (c .args .minutes) (c .args .enters) in
     record {
-      does = allowed-lays (areasRoom (tray .areas .now)) _ _ _ _ _ _ _ allowed n (omega (arith, room)) (laid .is);
+      does = does;
+      tidy = does-tidy caps _ _ made _ (λ _. does);
       kept = same-room _ _ long;
       stays = record { loan = refl; long = long };
     }

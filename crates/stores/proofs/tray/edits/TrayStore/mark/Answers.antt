@@ -1,7 +1,10 @@
 use mathlib.Core.Path.{refl}
 use native.Mathlib.Omega.{arith}
+use Rattle.program.specs.declared.edit.Edit.the-variants as edit
 use Rattle.program.proofs.Doing.{marks-one}
+use Rattle.program.proofs.Kept.{does-tidy}
 use Rattle.stores.specs.Records.{stageLayout}
+use Rattle.stores.specs.Trays.{areasRoom}
 use Rattle.stores.proofs.Areas.{below-inUse}
 use Rattle.stores.proofs.Trays.{tray-marked, stage-put-long, same-room}
 use Rattle.stores.proofs.Kept.{ends-kept-by-mark}
@@ -33,8 +36,11 @@ returns c =
     let put = c .put-stage .ensures in
     let marked = tray-marked _ _ _ (tray .«stage_area») (tray .«move_area») _ _ _ _ below (allowed .is) put in
     let long = stage-put-long _ _ _ _ put in
+    let does = marks-one _ _ _ _ (allowed .stage) (allowed .shown) (marked .is) in
+    let made = edit.Mark (c .args .stage) (c .args .marks) in
     record {
-      does = marks-one _ _ _ _ (allowed .stage) (allowed .shown) (marked .is);
+      does = does;
+      tidy = does-tidy (areasRoom (tray .areas .now)) _ _ made _ (λ _. does);
       kept = same-room _ _ long;
       stays = record { loan = refl; long = long };
     }

@@ -1,6 +1,8 @@
 use mathlib.Core.Path.{refl}
 use native.Mathlib.Omega.{arith}
+use Rattle.program.specs.declared.edit.Edit.the-variants as edit
 use Rattle.program.proofs.Doing.{opens}
+use Rattle.program.proofs.Kept.{does-tidy}
 use Rattle.stores.specs.Records.{stageLayout}
 use Rattle.stores.specs.Trays.{areasRoom}
 use Rattle.stores.proofs.Areas.{length-inUse}
@@ -15,6 +17,7 @@ returns-then-n-stage-capacity c =
     let n = length-inUse stageLayout (tray .«stage_count») (tray .areas .now .stages .items) in
     record {
       does = open-full (areasRoom (tray .areas .now)) _ _ (omega (arith, n, c .stage-capacity .ensures));
+      tidy = λ t. t;
       kept = refl;
       stays = record { loan = refl; long = record { stages = refl; moves = refl } };
     }
@@ -37,8 +40,11 @@ returns c =
     let long = stage-put-long _ _ _ _ put in
     let n = length-inUse stageLayout (tray .«stage_count») (tray .areas .now .stages .items) in
     let room = c .stage-capacity .ensures in
+    let caps = areasRoom (tray .areas .now) in
+    let does = opens caps _ _ _ _ n (omega (arith, room)) (opened .is) in
     record {
-      does = opens (areasRoom (tray .areas .now)) _ _ _ _ n (omega (arith, room)) (opened .is);
+      does = does;
+      tidy = does-tidy caps _ _ (edit.Open (c .args .marks)) _ (λ _. does);
       kept = same-room _ _ long;
       stays = record { loan = refl; long = long };
     }

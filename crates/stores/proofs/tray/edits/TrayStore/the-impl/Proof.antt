@@ -21,6 +21,14 @@ use Rattle.program.specs.contracts.Store.lay as trait-lay
 use Rattle.stores.specs.contracts.tray.edits.TrayStore.lay as own-lay
 use Rattle.stores.proofs.tray.edits.TrayStore.lay.Met as met-lay
 use Rattle.stores.proofs.tray.edits.TrayStore.lay.Symbol as symbol-lay
+use Rattle.program.specs.contracts.Store.cut as trait-cut
+use Rattle.stores.specs.contracts.tray.edits.TrayStore.cut as own-cut
+use Rattle.stores.proofs.tray.edits.TrayStore.cut.Met as met-cut
+use Rattle.stores.proofs.tray.edits.TrayStore.cut.Symbol as symbol-cut
+use Rattle.program.specs.contracts.Store.join as trait-join
+use Rattle.stores.specs.contracts.tray.edits.TrayStore.join as own-join
+use Rattle.stores.proofs.tray.edits.TrayStore.join.Met as met-join
+use Rattle.stores.proofs.tray.edits.TrayStore.join.Symbol as symbol-join
 use Rattle.stores.proofs.tray.edits.TrayStore.the-impl.Statement
 use Rattle.stores.specs.contracts.tray.Tray
 use Rattle.stores.specs.contracts.tray.edits.TrayProgram.the-impl as program
@@ -43,7 +51,7 @@ use mir.Syntax
 ruleset ends = (Logic.id⊢, Impl.to-emp, Less.less)
 
 pub bound : Statement.statement
-bound = λ γ w0 w1 w2 w3 w4 κ M 𝓤 H 𝓜 𝓖 𝓡.
+bound = λ γ w0 w1 w2 w3 w4 w5 w6 κ M 𝓤 H 𝓜 𝓖 𝓡.
     let lft : Ref.NamedLft = record { mir = Syntax.erased; lft = κ } in
     let row = Tray.the-row lft in
     let none = Param.layouts [] tt in
@@ -164,4 +172,48 @@ bound = λ γ w0 w1 w2 w3 w4 κ M 𝓤 H 𝓜 𝓖 𝓡.
           (λ ws. promised τs a .ensures y r (end-asked ws)) (λ x. search ends depth 24 fits 20000))
           (Table.widened 𝓤 H _ 𝓜 𝓡 γ _ _ (symbol-lay.as-method γ w4 _ refl)
           (met-lay.met 𝓤 H 𝓜 𝓖 running w4));
+      cut =
+          let asked = trait-cut.ended row store.ghosts store.dict program.ghosts program.dict in
+          let promised =
+          trait-cut.clauses row store.ghosts store.dict program.ghosts program.dict 𝓤 H A mem returns in
+          Impl.implements 𝓤 H A own-cut.signature _ (asked .signature .outlives) _ given _
+          (Table.run-framed 𝓤 H 𝓜 𝓡 (γ (Syntax.method store.dict 5 none)))
+          (own-cut.spec 𝓤 H A mem returns) _ 1 _ _ ((0, tt), ((1, tt), tt)) _
+          (λ τs a y. Logic.id⊢ 𝓤 _)
+          (λ τs h.
+          let inside = ⊑-trans (τs .1 .0) (row .lives) κ (h .1 .0) (search Impl.inside depth 24 fits 20000) in
+          ((⊑-refl (τs .0), (inside, tt)), (⊑-trans (τs .0) (τs .1 .0) κ (h .0 .0) inside, tt)))
+          _ (λ τs h a y. Impl.insides-in 𝓤 0 tt tt (Logic.emp 𝓤) tt)
+          (λ τs a y r.
+          let σs : Lfts 2 = (τs .0, (κ, tt)) in
+          let kept = own-cut.ended .kept in
+          let end = End.outs {n = 2} σs (own-cut.ended .signature .params) kept a in
+          let end-asked = End.outs {n = 2} τs (asked .signature .params) (asked .kept) a in
+          Impl.hidden 2 σs 𝓤 H A (own-cut.signature .params) kept (true, (true, (true, tt))) a
+          (λ ws. own-cut.clauses 𝓤 H A mem returns σs a .ensures y r (end ws))
+          (λ ws. promised τs a .ensures y r (end-asked ws)) (λ x. search ends depth 24 fits 20000))
+          (Table.widened 𝓤 H _ 𝓜 𝓡 γ _ _ (symbol-cut.as-method γ w5 _ refl)
+          (met-cut.met 𝓤 H 𝓜 𝓖 running w5));
+      join =
+          let asked = trait-join.ended row store.ghosts store.dict program.ghosts program.dict in
+          let promised =
+          trait-join.clauses row store.ghosts store.dict program.ghosts program.dict 𝓤 H A mem returns in
+          Impl.implements 𝓤 H A own-join.signature _ (asked .signature .outlives) _ given _
+          (Table.run-framed 𝓤 H 𝓜 𝓡 (γ (Syntax.method store.dict 6 none)))
+          (own-join.spec 𝓤 H A mem returns) _ 1 _ _ ((0, tt), ((1, tt), tt)) _
+          (λ τs a y. Logic.id⊢ 𝓤 _)
+          (λ τs h.
+          let inside = ⊑-trans (τs .1 .0) (row .lives) κ (h .1 .0) (search Impl.inside depth 24 fits 20000) in
+          ((⊑-refl (τs .0), (inside, tt)), (⊑-trans (τs .0) (τs .1 .0) κ (h .0 .0) inside, tt)))
+          _ (λ τs h a y. Impl.insides-in 𝓤 0 tt tt (Logic.emp 𝓤) tt)
+          (λ τs a y r.
+          let σs : Lfts 2 = (τs .0, (κ, tt)) in
+          let kept = own-join.ended .kept in
+          let end = End.outs {n = 2} σs (own-join.ended .signature .params) kept a in
+          let end-asked = End.outs {n = 2} τs (asked .signature .params) (asked .kept) a in
+          Impl.hidden 2 σs 𝓤 H A (own-join.signature .params) kept (true, tt) a
+          (λ ws. own-join.clauses 𝓤 H A mem returns σs a .ensures y r (end ws))
+          (λ ws. promised τs a .ensures y r (end-asked ws)) (λ x. search ends depth 24 fits 20000))
+          (Table.widened 𝓤 H _ 𝓜 𝓡 γ _ _ (symbol-join.as-method γ w6 _ refl)
+          (met-join.met 𝓤 H 𝓜 𝓖 running w6));
     }

@@ -1,0 +1,4 @@
+pub mod Alikes
+pub mod Minutes
+pub mod Halves
+pub mod Verdicts

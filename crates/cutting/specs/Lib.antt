@@ -1,0 +1,2 @@
+pub mod Minute
+pub mod Theorems
