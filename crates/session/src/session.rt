@@ -82,10 +82,12 @@ pub fn perform<S: Store>(
         if answers.reserve(1).is_err() {
             return Err(OutOfMemory { answers });
         }
-        let Ok(given) = answer(heap, store, call) else {
-            return Err(OutOfMemory { answers });
-        };
-        answers.push_reserved(given);
+        match answer(heap, store, call) {
+            Ok(given) => answers.push_reserved(given),
+            Err(_) => {
+                return Err(OutOfMemory { answers });
+            }
+        }
     }
     Ok(answers)
 }
