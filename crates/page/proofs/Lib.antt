@@ -3,3 +3,7 @@ pub mod Rising
 pub mod Cuts
 pub mod Readings
 pub mod Loads
+pub mod Printed
+pub mod LastLine
+pub mod Told
+pub mod Series

@@ -15,7 +15,7 @@ use Rattle.program.specs.Edits.{Caps}
 use Rattle.page.specs.declared.loading.Part.{Part}
 use Rattle.page.specs.declared.loading.Part.the-variants.{Stages, Moves, Rules}
 use Rattle.page.specs.Lines.{Line, stage, move, rule, write}
-use Rattle.page.specs.Pages.{rank, partOf, bytesOf, Follows, InForm, lastPart, NoLine, editStep, verdict, Edited, after, Accepted, rulesAmong, Took, Whole, BreaksForm, BreaksEdit, mostBytes}
+use Rattle.page.specs.Pages.{rank, partOf, bytesOf, Follows, InForm, lastPart, NoLine, editStep, verdict, Edited, after, Accepted, textsOf, rulesOf, Took, Whole, BreaksForm, BreaksEdit, mostBytes}
 
 bytes-push : (ls : List Line) (l : Line) (rest : List ℕ)
     → bytesOf (ls ++ l ∷ []) ++ rest ≡ bytesOf ls ++ (write l ++ 10 ∷ rest)
@@ -52,19 +52,23 @@ rank-rises part [] i = omega arith
 rank-rises part (l ∷ ls) i = omega (arith, i .0 .later, rank-rises (partOf l) ls (i .1))
 
 -- Before the last stage or move there is no rule.
-no-rule-yet : (part : Part) (ls : List Line) → InForm part ls → rank (lastPart part ls) < 2 → rulesAmong ls ≡ []
+no-rule-yet : (part : Part) (ls : List Line) → InForm part ls → rank (lastPart part ls) < 2 → textsOf ls ≡ []
 no-rule-yet part [] i h = refl
 no-rule-yet part (stage marks ∷ ls) i h = no-rule-yet Stages ls (i .1) h
 no-rule-yet part (move s d t ∷ ls) i h = no-rule-yet Moves ls (i .1) h
 no-rule-yet part (rule text ∷ ls) i h = absurd (omega (arith, rank-rises Rules ls (i .1)))
 
-rules-push : (ls : List Line) (l : Line) → partOf l ≡ Rules → rulesAmong (ls ++ l ∷ []) ≡ rulesAmong ls ++ l ∷ []
-rules-push [] (stage marks) e = absurd (let z : _≡_ {A = ℕ} 0 1 = cc in omega arith)
-rules-push [] (move s d t) e = absurd (let z : _≡_ {A = ℕ} 0 1 = cc in omega arith)
-rules-push [] (rule text) e = refl
-rules-push (stage marks ∷ ls) l e = rules-push ls l e
-rules-push (move s d t ∷ ls) l e = rules-push ls l e
-rules-push (rule text ∷ ls) l e = ap (λ ks. rule text ∷ ks) (rules-push ls l e)
+rules-push : (ls : List Line) (l : Line) (rest : List ℕ) → partOf l ≡ Rules
+    → rulesOf (textsOf (ls ++ l ∷ [])) ++ rest ≡ rulesOf (textsOf ls) ++ (write l ++ 10 ∷ rest)
+rules-push [] (stage marks) rest e = absurd (let z : _≡_ {A = ℕ} 0 1 = cc in omega arith)
+rules-push [] (move s d t) rest e = absurd (let z : _≡_ {A = ℕ} 0 1 = cc in omega arith)
+rules-push [] (rule text) rest e = append-assoc (write (rule text)) (10 ∷ []) rest
+rules-push (stage marks ∷ ls) l rest e = rules-push ls l rest e
+rules-push (move s d t ∷ ls) l rest e = rules-push ls l rest e
+rules-push (rule text ∷ ls) l rest e =
+    append-assoc (write (rule text)) (10 ∷ rulesOf (textsOf (ls ++ l ∷ []))) rest
+    ∙ ap (λ bs. write (rule text) ++ 10 ∷ bs) (rules-push ls l rest e)
+    ∙ sym (append-assoc (write (rule text)) (10 ∷ rulesOf (textsOf ls)) (write l ++ 10 ∷ rest))
 
 low-rank : (part : Part) → (part ≡ Rules → ⊥) → rank part < 2
 low-rank Stages n = omega arith
@@ -81,7 +85,7 @@ pub record Stands (caps : Caps) (p : Prog) (page : List ℕ) (part : Part) (numb
   pub took : Took caps p page lines rest q
   pub part-is : part ≡ lastPart Stages lines
   pub number-is : number ≡ length lines
-  pub rules-are : rules ≡ bytesOf (rulesAmong lines) ++ rest
+  pub rules-are : rules ≡ rulesOf (textsOf lines) ++ rest
 
 pub at-start : (caps : Caps) (p : Prog) (page : List ℕ) → Stands caps p page Stages 0 page page p
 at-start caps p page =
@@ -121,9 +125,8 @@ module _ {caps : Caps} {p : Prog} {page : List ℕ} {part : Part} {number : ℕ}
         took = lines-more l rest′ q′ f e d;
         part-is = is ∙ sym (last-push Stages (s .lines) l);
         number-is = ap (λ n. n + 1) (s .number-is) ∙ sym (length-push (s .lines) l);
-        rules-are = s .rules-are ∙ ap (λ bs. bytesOf (rulesAmong (s .lines)) ++ bs) e
-            ∙ sym (bytes-push (rulesAmong (s .lines)) l rest′)
-            ∙ ap (λ ks. bytesOf ks ++ rest′) (sym (rules-push (s .lines) l (sym is ∙ rule-line)));
+        rules-are = s .rules-are ∙ ap (λ bs. rulesOf (textsOf (s .lines)) ++ bs) e
+            ∙ sym (rules-push (s .lines) l rest′ (sym is ∙ rule-line));
       }
 
   pub other-more : (l : Line) (rest′ : List ℕ) (part′ : Part) (q′ : Prog) → Follows part l → rest ≡ write l ++ 10 ∷ rest′
@@ -137,7 +140,7 @@ module _ {caps : Caps} {p : Prog} {page : List ℕ} {part : Part} {number : ℕ}
         took = took;
         part-is = last;
         number-is = ap (λ n. n + 1) (s .number-is) ∙ sym (length-push (s .lines) l);
-        rules-are = ap (λ ks. bytesOf ks ++ rest′)
+        rules-are = ap (λ ts. rulesOf ts ++ rest′)
             (sym (no-rule-yet Stages (s .lines ++ l ∷ []) (took .form) (subst (λ x. rank x < 2) last (low-rank part′ other))));
       }
 
@@ -148,7 +151,7 @@ module _ {caps : Caps} {p : Prog} {page : List ℕ} {part : Part} {number : ℕ}
         lines = s .lines;
         short = short;
         took = subst (λ bs. Took caps p page (s .lines) bs q) e (s .took);
-        rules-are = s .rules-are ∙ ap (λ bs. bytesOf (rulesAmong (s .lines)) ++ bs) e ∙ append-nil (bytesOf (rulesAmong (s .lines)));
+        rules-are = s .rules-are ∙ ap (λ bs. rulesOf (textsOf (s .lines)) ++ bs) e ∙ append-nil (rulesOf (textsOf (s .lines)));
       }
 
   pub breaks-form : 0 < length rest → length page ≤ mostBytes → NoLine part rest → BreaksForm caps p page (number + 1)

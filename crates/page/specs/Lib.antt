@@ -4,3 +4,7 @@ pub mod Letters
 pub mod Splits
 pub mod Lines
 pub mod Pages
+pub mod Faults
+pub mod Answers
+pub mod Console
+pub mod Whole

@@ -1,6 +1,6 @@
 -- Pages: lines in their order, and the edits that they make in a store.
 use mathlib.Core.Path.{_≡_}
-use mathlib.Core.List.{List, [], _∷_, _++_}
+use mathlib.Core.List.{List, [], _∷_, _++_, map}
 use Prim.Native.Nat.{ℕ, _+_, _≤_, _<_}
 use lib.ListN.{length}
 use denote.Ref.{RefT, now}
@@ -14,8 +14,8 @@ use Rattle.program.specs.Edits.{Caps, Out, accepted, openStep, layStep}
 use Rattle.page.specs.declared.line.PageLine.{PageLine}
 use Rattle.page.specs.declared.loading.Part.{Part}
 use Rattle.page.specs.declared.loading.Part.the-variants.{Stages, Moves, Rules}
-use Rattle.page.specs.declared.loading.PageFault.{PageFault}
-use Rattle.page.specs.declared.loading.PageFault.the-variants.{TooLong, OutOfForm, Edit}
+use Rattle.page.specs.declared.faults.PageFault.{PageFault}
+use Rattle.page.specs.declared.faults.PageFault.the-variants.{TooLong, OutOfForm, Edit}
 use Rattle.page.specs.Lines.{Line, stage, move, rule, write, Fits, lineOf}
 
 abbrev pub mostBytes : ℕ
@@ -86,12 +86,16 @@ abbrev pub Accepted : Caps → Prog → List Line → Type 0
 Accepted caps p [] = Unit {0}
 Accepted caps p (l ∷ ls) = (verdict (editStep caps p l .answer) ≡ Ok tt) × Accepted caps (editStep caps p l .after) ls
 
--- The rules among lines, in their order.
-abbrev pub rulesAmong : List Line → List Line
-rulesAmong [] = []
-rulesAmong (stage marks ∷ ls) = rulesAmong ls
-rulesAmong (move leaves minutes enters ∷ ls) = rulesAmong ls
-rulesAmong (rule text ∷ ls) = rule text ∷ rulesAmong ls
+-- The texts of the rules among lines, in their order.
+abbrev pub textsOf : List Line → List (List ℕ)
+textsOf [] = []
+textsOf (stage marks ∷ ls) = textsOf ls
+textsOf (move leaves minutes enters ∷ ls) = textsOf ls
+textsOf (rule text ∷ ls) = text ∷ textsOf ls
+
+-- The bytes of rules.
+abbrev pub rulesOf : List (List ℕ) → List ℕ
+rulesOf texts = bytesOf (map rule texts)
 
 -- A page begins with lines in form, each accepted by a store that then holds the program q; rest follows them.
 pub record Took (caps : Caps) (p : Prog) (page : List ℕ) (lines : List Line) (rest : List ℕ) (q : Prog) : Type 0 where
@@ -105,7 +109,7 @@ pub record Whole (caps : Caps) (p : Prog) (page rules : List ℕ) (q : Prog) : T
   pub lines : List Line
   pub short : length page ≤ mostBytes
   pub took : Took caps p page lines [] q
-  pub rules-are : rules ≡ bytesOf (rulesAmong lines)
+  pub rules-are : rules ≡ rulesOf (textsOf lines)
 
 -- Line k is the first that is out of form or refused; it is out of form.
 pub record BreaksForm (caps : Caps) (p : Prog) (page : List ℕ) (k : ℕ) : Type 0 where

@@ -2,12 +2,11 @@
 ghost use mathlib.Core.Path.{_≡_};
 ghost use Rattle.page.specs.Lines.{lineOf};
 ghost use Rattle.page.specs.Pages.{partOf, NextLine, editStep, Edited, Loads};
+use crate::faults::PageFault;
 use crate::line::PageLine;
 use crate::line::read_line;
 use crate::split::split_once;
 use program::EditFault;
-use program::EditFaultDebug;
-use program::EditFaultPartialEq;
 use program::Store;
 
 // The most bytes of a page.
@@ -19,17 +18,6 @@ pub enum Part {
     Stages,
     Moves,
     Rules,
-}
-
-// Why a page was refused. Lines are counted from 1.
-#[derive(Clone, Copy, PartialEq, Eq, Debug)]
-pub enum PageFault {
-    // more than MOST_BYTES
-    TooLong,
-    // a line that breaks the form of a page
-    OutOfForm { line: usize },
-    // a line whose edit was refused
-    Edit { line: usize, fault: EditFault },
 }
 
 // The part that a line stands in.
@@ -44,7 +32,7 @@ fn part_of(line: PageLine) -> Part
 }
 
 // The line that the bytes begin with and what follows it, if it is in form and may stand in a part from `part` on.
-fn next_line(bytes: &[u8], part: Part) -> Option<(PageLine<'_>, &[u8])>
+pub(crate) fn next_line(bytes: &[u8], part: Part) -> Option<(PageLine<'_>, &[u8])>
     ensures { λ r. ⌜ NextLine part (now (bytes .entry)) r ⌝ }
 {
     let (line, rest) = split_once(bytes, b'\n')?;

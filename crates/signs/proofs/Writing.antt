@@ -16,7 +16,7 @@ use Rattle.signs.specs.declared.Sign.{Sign}
 use Rattle.signs.specs.declared.Sign.the-variants.{Open, Close, OpenSquare, CloseSquare, Bang, Amp, Bar, Each, Until, UntilAtMost, UntilAtLeast, Letter, Number, Bad}
 use Rattle.signs.specs.Signs.{between, digit, run, value, pair, plain, sign, more, signsAfter, signs}
 use Rattle.signs.specs.Writing.{Digit, worth, Numeral, Spells, Starts, Apart, Space, SignThen, Writes, Good, Signs-right}
-use Rattle.signs.proofs.Lexing.{signs-drop, digit-yes, digit-no, first-byte, letter-sign, other-more, number-sign, until-plain}
+use Rattle.signs.proofs.Lexing.{digit-yes, digit-no, first-byte, letter-begins, number-begins}
 use Rattle.signs.proofs.Letters.{by-cond}
 
 -- from what is written to signs
@@ -65,7 +65,7 @@ number-signs (d ∷ ds) bs n h a = go (eqb d 48) refl
         ap (λ xs. signs (xs ++ bs)) e ∙ zero-signs bs (none-in-front bs a .0) ∙ ap (λ m. Number m ∷ signs bs) (sym (ap (worth 0) e) ∙ h .value)
     go false t =
         let none = none-in-front bs a in
-        let k = number-sign d (ds ++ bs) (omega (arith, eqb-false d 48 t)) (h .digits .0 .1) in
+        let k = number-begins d (ds ++ bs) (omega (arith, eqb-false d 48 t)) (h .digits .0 .1) in
         let v = digits-value 0 (d ∷ ds) bs (h .digits) (none .1) ∙ h .value in
         let r = k .1 ∙ digits-run ds bs (h .digits .1) (none .0) in
         first-byte d (ds ++ bs) (λ e. omega arith) ∙ ap (λ s. s ∷ signs (drop (more d (ds ++ bs)) (ds ++ bs))) (k .0 ∙ ap Number v)
@@ -84,10 +84,10 @@ pair-apart x y (a ∷ b ∷ bs) n = go (eqb a x) refl (eqb b y) refl
 letter-signs : (k : ℕ) (bs : List ℕ) → k < 16 → signs ((97 + k) ∷ bs) ≡ Letter k ∷ signs bs
 letter-signs k bs h =
     let b = 97 + k in
-    let m : more b bs ≡ 0 = other-more b bs (λ e. omega arith) (digit-no b (λ x y. omega arith)) in
+    let p = letter-begins b bs (omega arith) (omega arith) in
     let back : b - 97 ≡ k = omega arith in
-    first-byte b bs (λ e. omega arith) ∙ ap (λ s. s ∷ signs (drop (more b bs) bs)) (letter-sign b bs (omega arith) (omega arith) ∙ ap Letter back)
-    ∙ ap (λ i. Letter k ∷ signs (drop i bs)) m
+    first-byte b bs (λ e. omega arith) ∙ ap (λ s. s ∷ signs (drop (more b bs) bs)) (p .0 ∙ ap Letter back)
+    ∙ ap (λ i. Letter k ∷ signs (drop i bs)) (p .1)
 
 until-signs : (bs : List ℕ) → pair 60 61 bs ≡ false → pair 62 61 bs ≡ false → signs (85 ∷ bs) ≡ Until ∷ signs bs
 unfolding sign more signsAfter

@@ -1,54 +1,48 @@
--- the `use` lines below are this print's own: the module states none of them
-use Rattle.program.specs.contracts.Program.move_at
-use Rattle.program.specs.contracts.Program.move_count
-use Rattle.program.specs.contracts.Program.stage
-use Rattle.program.specs.contracts.Program.stage_count
-use Rattle.stores.proofs.tray.edits.TrayProgram.move_at.Met
-use Rattle.stores.proofs.tray.edits.TrayProgram.move_at.Symbol
-use Rattle.stores.proofs.tray.edits.TrayProgram.move_count.Met as Met'
-use Rattle.stores.proofs.tray.edits.TrayProgram.move_count.Symbol as Symbol'
-use Rattle.stores.proofs.tray.edits.TrayProgram.stage.Met as Met''
-use Rattle.stores.proofs.tray.edits.TrayProgram.stage.Symbol as Symbol''
-use Rattle.stores.proofs.tray.edits.TrayProgram.stage_count.Met as Met'3
-use Rattle.stores.proofs.tray.edits.TrayProgram.stage_count.Symbol as Symbol'3
+-- The block `TrayProgram`: the law of its trait, and that each method meets the contract that the trait gives it.
+-- The check makes such a proof itself, but not for a trait that has a law and a type that has a lifetime.
+use native.Mathlib.Omega.{arith}
+use Rattle.program.specs.Meaning.{Limits}
+use Rattle.stores.specs.Records.{stageLayout, moveLayout}
+use Rattle.stores.specs.InTray.{trayMeaning}
+use Rattle.stores.proofs.Areas.{length-inUse}
+use Rattle.stores.specs.declared.tray.Tray as tray
+use Rattle.program.specs.contracts.Program.stage_count as trait-stage-count
+use Rattle.stores.specs.contracts.tray.edits.TrayProgram.stage_count as own-stage-count
+use Rattle.stores.proofs.tray.edits.TrayProgram.stage_count.Met as met-stage-count
+use Rattle.stores.proofs.tray.edits.TrayProgram.stage_count.Symbol as symbol-stage-count
+use Rattle.program.specs.contracts.Program.move_count as trait-move-count
+use Rattle.stores.specs.contracts.tray.edits.TrayProgram.move_count as own-move-count
+use Rattle.stores.proofs.tray.edits.TrayProgram.move_count.Met as met-move-count
+use Rattle.stores.proofs.tray.edits.TrayProgram.move_count.Symbol as symbol-move-count
+use Rattle.program.specs.contracts.Program.stage as trait-stage
+use Rattle.stores.specs.contracts.tray.edits.TrayProgram.stage as own-stage
+use Rattle.stores.proofs.tray.edits.TrayProgram.stage.Met as met-stage
+use Rattle.stores.proofs.tray.edits.TrayProgram.stage.Symbol as symbol-stage
+use Rattle.program.specs.contracts.Program.move_at as trait-move-at
+use Rattle.stores.specs.contracts.tray.edits.TrayProgram.move_at as own-move-at
+use Rattle.stores.proofs.tray.edits.TrayProgram.move_at.Met as met-move-at
+use Rattle.stores.proofs.tray.edits.TrayProgram.move_at.Symbol as symbol-move-at
 use Rattle.stores.proofs.tray.edits.TrayProgram.the-impl.Statement
 use Rattle.stores.specs.contracts.tray.Tray
-use Rattle.stores.specs.contracts.tray.edits.TrayProgram.move_at as «move_at'»
-use Rattle.stores.specs.contracts.tray.edits.TrayProgram.move_count as «move_count'»
-use Rattle.stores.specs.contracts.tray.edits.TrayProgram.stage as stage'
-use Rattle.stores.specs.contracts.tray.edits.TrayProgram.stage_count as «stage_count'»
 use Rattle.stores.specs.contracts.tray.edits.TrayProgram.the-impl
-use Rattle.program.specs.Meaning.{Limits}
-use Rattle.stores.specs.declared.tray.Tray.{Tray as TrayT}
-use native.Mathlib.Omega.{arith}
-use Rattle.stores.specs.Records.{stageLayout, moveLayout}
-use Rattle.stores.proofs.Areas.{length-inUse}
 use base.Logic
 use contract.BorrowLft
+use contract.Lifetimes.{Lfts}
 use contract.Running
 use denote.Param
 use denote.Ref
 use denote.Triple.End
 use denote.Triple.Impl
 use denote.Triple.Less
-use denote.Triple.Spec
 use denote.Triple.Table
-use mathlib.Core.Bool
-use mathlib.Core.List
-use mathlib.Core.Path as Path'
+use mathlib.Core.Bool.{true}
+use mathlib.Core.List.{[]}
+use mathlib.Core.Path.{refl}
 use mir.Syntax
 
 ruleset ends = (Logic.id⊢, Impl.to-emp, Less.less)
 
-ruleset parts = (
-  BorrowLft.⊑-refl,
-  BorrowLft.⊑-static,
-  BorrowLft.⊑-meet,
-  Impl.in-left,
-  Impl.in-right,
-)
-
-tray-limits : (t : TrayT) → Limits (the-impl.ghosts .meaning t)
+tray-limits : (t : tray.Tray) → Limits (trayMeaning t)
 tray-limits t =
     record {
       few-stages = omega (arith, length-inUse stageLayout (t .«stage_count») (t .stages .now .items));
@@ -57,715 +51,78 @@ tray-limits t =
     }
 
 pub bound : Statement.statement
-bound = λ γ″' x'6 x'7 x'8 x'9 x'10 M' 𝓤' H' 𝓜' 𝓖' 𝓡'. let x'11 : Ref.NamedLft = record {
-  mir = Syntax.erased;
-  lft = x'10;
-} in record {
-  limits = tray-limits;
-  «stage_count» = Impl.implements
-      𝓤'
-      H'
-      (𝓖' .A)
-      stage_count'.signature
-      2
-      (stage_count.ended (Tray.the-row x'11) the-impl.ghosts the-impl.dict .signature .outlives)
-      (λ τs'. (τs' .0, (x'11 .lft, tt)))
-      (Running.givenOf 𝓤' H' 𝓜' 𝓖')
-      (𝓡' .run (γ″' (Syntax.method the-impl.dict 0 (Param.layouts List.[] tt))))
-      (Table.run-framed
-      𝓤'
-      H'
-      𝓜'
-      𝓡'
-      (γ″' (Syntax.method the-impl.dict 0 (Param.layouts List.[] tt))))
-      (stage_count'.spec 𝓤' H' (𝓖' .A) (𝓜' .mem) (𝓡' .returns))
-      (λ τs'' a'. record {
-        ghost = stage_count.spec
-            (Tray.the-row x'11)
-            the-impl.ghosts
-            the-impl.dict
-            𝓤'
-            H'
-            (𝓖' .A)
-            (𝓜' .mem)
-            (𝓡' .returns)
-            τs''
-            a' .ghost;
-        requires = λ y'. stage_count.spec
-            (Tray.the-row x'11)
-            the-impl.ghosts
-            the-impl.dict
-            𝓤'
-            H'
-            (𝓖' .A)
-            (𝓜' .mem)
-            (𝓡' .returns)
-            τs''
-            a' .requires
-            y';
-        ensures = stage_count.spec
-            (Tray.the-row x'11)
-            the-impl.ghosts
-            the-impl.dict
-            𝓤'
-            H'
-            (𝓖' .A)
-            (𝓜' .mem)
-            (𝓡' .returns)
-            τs''
-            a' .ensures;
-      })
-      1
-      (λ τs'3. (τs'3 .1 .0, tt))
-      (λ τs'4. (Tray.the-row x'11 .lives, tt))
-      ((0, tt), ((1, tt), tt))
-      (λ τs'5 a'' y''. Logic.emp 𝓤')
-      (λ τs'6 a'3 y'3. Logic.id⊢
-      𝓤'
-      (stage_count.spec
-      (Tray.the-row x'11)
-      the-impl.ghosts
-      the-impl.dict
-      𝓤'
-      H'
-      (𝓖' .A)
-      (𝓜' .mem)
-      (𝓡' .returns)
-      τs'6
-      a'3 .requires
-      y'3))
-      (λ τs'7 h'. (
-        (
-          BorrowLft.⊑-refl (τs'7 .0),
-          (
-            BorrowLft.⊑-trans
-                (τs'7 .1 .0)
-                (τs'7 .1 .0)
-                (x'11 .lft)
-                (BorrowLft.⊑-refl (τs'7 .1 .0))
-                (BorrowLft.⊑-trans
-                (τs'7 .1 .0)
-                (Tray.the-row x'11 .lives)
-                (x'11 .lft)
-                (h' .1 .0)
-                (search Impl.inside depth 24 fits 20000)),
-            tt,
-          ),
-        ),
-        (
-          BorrowLft.⊑-trans
-              (τs'7 .0)
-              (τs'7 .1 .0)
-              (x'11 .lft)
-              (BorrowLft.⊑-trans
-              (τs'7 .0)
-              (τs'7 .0)
-              (τs'7 .1 .0)
-              (BorrowLft.⊑-refl (τs'7 .0))
-              (h' .0 .0))
-              (BorrowLft.⊑-trans
-              (τs'7 .1 .0)
-              (Tray.the-row x'11 .lives)
-              (x'11 .lft)
-              (h' .1 .0)
-              (search Impl.inside depth 24 fits 20000)),
-          tt,
-        ),
-      ))
-      (λ τs'8 a'4 y'4. y'4)
-      (λ τs'9 h'' a'5 y'5. Impl.insides-in 𝓤' 0 tt tt (Logic.emp 𝓤') tt)
-      (λ τs'10 a'6 y'6 r'. Impl.hidden
-      2
-      (τs'10 .0, (x'11 .lft, tt))
-      𝓤'
-      H'
-      (𝓖' .A)
-      (stage_count'.signature .params)
-      (stage_count'.ended .kept)
-      (Bool.true, tt)
-      a'6
-      (λ ws'. stage_count'.clauses 𝓤' H' (𝓖' .A) (𝓜' .mem) (𝓡' .returns) (
-        τs'10 .0,
-        (x'11 .lft, tt),
-      )
-      a'6 .ensures
-      y'6
-      r'
-      (End.outs {n = 2}
-      (τs'10 .0, (x'11 .lft, tt))
-      (stage_count'.ended .signature .params)
-      (stage_count'.ended .kept)
-      a'6
-      ws'))
-      (λ ws''. stage_count.clauses
-      (Tray.the-row x'11)
-      the-impl.ghosts
-      the-impl.dict
-      𝓤'
-      H'
-      (𝓖' .A)
-      (𝓜' .mem)
-      (𝓡' .returns)
-      τs'10
-      a'6 .ensures
-      y'6
-      r'
-      (End.outs {n = 2}
-      τs'10
-      (stage_count.ended (Tray.the-row x'11) the-impl.ghosts the-impl.dict .signature .params)
-      (stage_count.ended (Tray.the-row x'11) the-impl.ghosts the-impl.dict .kept)
-      a'6
-      ws''))
-      λ x'12. search ends depth 24 fits 20000)
-      (Table.widened
-      𝓤'
-      H'
-      (Spec.tripleOf
-      𝓤'
-      H'
-      (𝓖' .A)
-      stage_count'.signature
-      (stage_count'.spec 𝓤' H' (𝓖' .A) (𝓜' .mem) (𝓡' .returns)))
-      𝓜'
-      𝓡'
-      γ″'
-      (γ″' Symbol'3.name)
-      (γ″' (Syntax.method the-impl.dict 0 (Param.layouts List.[] tt)))
-      (Symbol'3.as-method
-      γ″'
-      x'6
-      (Syntax.method the-impl.dict 0 (Param.layouts List.[] tt))
-      Path'.refl)
-      (Met'3.met 𝓤' H' 𝓜' 𝓖' (Running.within 𝓤' H' 𝓜' 𝓡' γ″') x'6));
-  «move_count» = Impl.implements
-      𝓤'
-      H'
-      (𝓖' .A)
-      move_count'.signature
-      2
-      (move_count.ended (Tray.the-row x'11) the-impl.ghosts the-impl.dict .signature .outlives)
-      (λ τs'11. (τs'11 .0, (x'11 .lft, tt)))
-      (Running.givenOf 𝓤' H' 𝓜' 𝓖')
-      (𝓡' .run (γ″' (Syntax.method the-impl.dict 1 (Param.layouts List.[] tt))))
-      (Table.run-framed
-      𝓤'
-      H'
-      𝓜'
-      𝓡'
-      (γ″' (Syntax.method the-impl.dict 1 (Param.layouts List.[] tt))))
-      (move_count'.spec 𝓤' H' (𝓖' .A) (𝓜' .mem) (𝓡' .returns))
-      (λ τs'12 a'7. record {
-        ghost = move_count.spec
-            (Tray.the-row x'11)
-            the-impl.ghosts
-            the-impl.dict
-            𝓤'
-            H'
-            (𝓖' .A)
-            (𝓜' .mem)
-            (𝓡' .returns)
-            τs'12
-            a'7 .ghost;
-        requires = λ y'7. move_count.spec
-            (Tray.the-row x'11)
-            the-impl.ghosts
-            the-impl.dict
-            𝓤'
-            H'
-            (𝓖' .A)
-            (𝓜' .mem)
-            (𝓡' .returns)
-            τs'12
-            a'7 .requires
-            y'7;
-        ensures = move_count.spec
-            (Tray.the-row x'11)
-            the-impl.ghosts
-            the-impl.dict
-            𝓤'
-            H'
-            (𝓖' .A)
-            (𝓜' .mem)
-            (𝓡' .returns)
-            τs'12
-            a'7 .ensures;
-      })
-      1
-      (λ τs'13. (τs'13 .1 .0, tt))
-      (λ τs'14. (Tray.the-row x'11 .lives, tt))
-      ((0, tt), ((1, tt), tt))
-      (λ τs'15 a'8 y'8. Logic.emp 𝓤')
-      (λ τs'16 a'9 y'9. Logic.id⊢
-      𝓤'
-      (move_count.spec
-      (Tray.the-row x'11)
-      the-impl.ghosts
-      the-impl.dict
-      𝓤'
-      H'
-      (𝓖' .A)
-      (𝓜' .mem)
-      (𝓡' .returns)
-      τs'16
-      a'9 .requires
-      y'9))
-      (λ τs'17 h'3. (
-        (
-          BorrowLft.⊑-refl (τs'17 .0),
-          (
-            BorrowLft.⊑-trans
-                (τs'17 .1 .0)
-                (τs'17 .1 .0)
-                (x'11 .lft)
-                (BorrowLft.⊑-refl (τs'17 .1 .0))
-                (BorrowLft.⊑-trans
-                (τs'17 .1 .0)
-                (Tray.the-row x'11 .lives)
-                (x'11 .lft)
-                (h'3 .1 .0)
-                (search Impl.inside depth 24 fits 20000)),
-            tt,
-          ),
-        ),
-        (
-          BorrowLft.⊑-trans
-              (τs'17 .0)
-              (τs'17 .1 .0)
-              (x'11 .lft)
-              (BorrowLft.⊑-trans
-              (τs'17 .0)
-              (τs'17 .0)
-              (τs'17 .1 .0)
-              (BorrowLft.⊑-refl (τs'17 .0))
-              (h'3 .0 .0))
-              (BorrowLft.⊑-trans
-              (τs'17 .1 .0)
-              (Tray.the-row x'11 .lives)
-              (x'11 .lft)
-              (h'3 .1 .0)
-              (search Impl.inside depth 24 fits 20000)),
-          tt,
-        ),
-      ))
-      (λ τs'18 a'10 y'10. y'10)
-      (λ τs'19 h'4 a'11 y'11. Impl.insides-in 𝓤' 0 tt tt (Logic.emp 𝓤') tt)
-      (λ τs'20 a'12 y'12 r''. Impl.hidden
-      2
-      (τs'20 .0, (x'11 .lft, tt))
-      𝓤'
-      H'
-      (𝓖' .A)
-      (move_count'.signature .params)
-      (move_count'.ended .kept)
-      (Bool.true, tt)
-      a'12
-      (λ ws'3. move_count'.clauses 𝓤' H' (𝓖' .A) (𝓜' .mem) (𝓡' .returns) (
-        τs'20 .0,
-        (x'11 .lft, tt),
-      )
-      a'12 .ensures
-      y'12
-      r''
-      (End.outs {n = 2}
-      (τs'20 .0, (x'11 .lft, tt))
-      (move_count'.ended .signature .params)
-      (move_count'.ended .kept)
-      a'12
-      ws'3))
-      (λ ws'4. move_count.clauses
-      (Tray.the-row x'11)
-      the-impl.ghosts
-      the-impl.dict
-      𝓤'
-      H'
-      (𝓖' .A)
-      (𝓜' .mem)
-      (𝓡' .returns)
-      τs'20
-      a'12 .ensures
-      y'12
-      r''
-      (End.outs {n = 2}
-      τs'20
-      (move_count.ended (Tray.the-row x'11) the-impl.ghosts the-impl.dict .signature .params)
-      (move_count.ended (Tray.the-row x'11) the-impl.ghosts the-impl.dict .kept)
-      a'12
-      ws'4))
-      λ x'13. search ends depth 24 fits 20000)
-      (Table.widened
-      𝓤'
-      H'
-      (Spec.tripleOf
-      𝓤'
-      H'
-      (𝓖' .A)
-      move_count'.signature
-      (move_count'.spec 𝓤' H' (𝓖' .A) (𝓜' .mem) (𝓡' .returns)))
-      𝓜'
-      𝓡'
-      γ″'
-      (γ″' Symbol'.name)
-      (γ″' (Syntax.method the-impl.dict 1 (Param.layouts List.[] tt)))
-      (Symbol'.as-method
-      γ″'
-      x'7
-      (Syntax.method the-impl.dict 1 (Param.layouts List.[] tt))
-      Path'.refl)
-      (Met'.met 𝓤' H' 𝓜' 𝓖' (Running.within 𝓤' H' 𝓜' 𝓡' γ″') x'7));
-  stage = Impl.implements
-      𝓤'
-      H'
-      (𝓖' .A)
-      stage'.signature
-      2
-      (stage.ended (Tray.the-row x'11) the-impl.ghosts the-impl.dict .signature .outlives)
-      (λ τs'21. (τs'21 .0, (x'11 .lft, tt)))
-      (Running.givenOf 𝓤' H' 𝓜' 𝓖')
-      (𝓡' .run (γ″' (Syntax.method the-impl.dict 2 (Param.layouts List.[] tt))))
-      (Table.run-framed
-      𝓤'
-      H'
-      𝓜'
-      𝓡'
-      (γ″' (Syntax.method the-impl.dict 2 (Param.layouts List.[] tt))))
-      (stage'.spec 𝓤' H' (𝓖' .A) (𝓜' .mem) (𝓡' .returns))
-      (λ τs'22 a'13. record {
-        ghost = stage.spec
-            (Tray.the-row x'11)
-            the-impl.ghosts
-            the-impl.dict
-            𝓤'
-            H'
-            (𝓖' .A)
-            (𝓜' .mem)
-            (𝓡' .returns)
-            τs'22
-            a'13 .ghost;
-        requires = λ y'13. stage.spec
-            (Tray.the-row x'11)
-            the-impl.ghosts
-            the-impl.dict
-            𝓤'
-            H'
-            (𝓖' .A)
-            (𝓜' .mem)
-            (𝓡' .returns)
-            τs'22
-            a'13 .requires
-            y'13;
-        ensures = stage.spec
-            (Tray.the-row x'11)
-            the-impl.ghosts
-            the-impl.dict
-            𝓤'
-            H'
-            (𝓖' .A)
-            (𝓜' .mem)
-            (𝓡' .returns)
-            τs'22
-            a'13 .ensures;
-      })
-      1
-      (λ τs'23. (τs'23 .1 .0, tt))
-      (λ τs'24. (Tray.the-row x'11 .lives, tt))
-      ((0, tt), ((1, tt), tt))
-      (λ τs'25 a'14 y'14. Logic.emp 𝓤')
-      (λ τs'26 a'15 y'15. Logic.id⊢
-      𝓤'
-      (stage.spec
-      (Tray.the-row x'11)
-      the-impl.ghosts
-      the-impl.dict
-      𝓤'
-      H'
-      (𝓖' .A)
-      (𝓜' .mem)
-      (𝓡' .returns)
-      τs'26
-      a'15 .requires
-      y'15))
-      (λ τs'27 h'5. (
-        (
-          BorrowLft.⊑-refl (τs'27 .0),
-          (
-            BorrowLft.⊑-trans
-                (τs'27 .1 .0)
-                (τs'27 .1 .0)
-                (x'11 .lft)
-                (BorrowLft.⊑-refl (τs'27 .1 .0))
-                (BorrowLft.⊑-trans
-                (τs'27 .1 .0)
-                (Tray.the-row x'11 .lives)
-                (x'11 .lft)
-                (h'5 .1 .0)
-                (search Impl.inside depth 24 fits 20000)),
-            tt,
-          ),
-        ),
-        (
-          BorrowLft.⊑-trans
-              (τs'27 .0)
-              (τs'27 .1 .0)
-              (x'11 .lft)
-              (BorrowLft.⊑-trans
-              (τs'27 .0)
-              (τs'27 .0)
-              (τs'27 .1 .0)
-              (BorrowLft.⊑-refl (τs'27 .0))
-              (h'5 .0 .0))
-              (BorrowLft.⊑-trans
-              (τs'27 .1 .0)
-              (Tray.the-row x'11 .lives)
-              (x'11 .lft)
-              (h'5 .1 .0)
-              (search Impl.inside depth 24 fits 20000)),
-          tt,
-        ),
-      ))
-      (λ τs'28 a'16 y'16. y'16)
-      (λ τs'29 h'6 a'17 y'17. Impl.insides-in 𝓤' 0 tt tt (Logic.emp 𝓤') tt)
-      (λ τs'30 a'18 y'18 r'3. Impl.hidden
-      2
-      (τs'30 .0, (x'11 .lft, tt))
-      𝓤'
-      H'
-      (𝓖' .A)
-      (stage'.signature .params)
-      (stage'.ended .kept)
-      (Bool.true, (Bool.true, tt))
-      a'18
-      (λ ws'5. stage'.clauses
-      𝓤'
-      H'
-      (𝓖' .A)
-      (𝓜' .mem)
-      (𝓡' .returns)
-      (τs'30 .0, (x'11 .lft, tt))
-      a'18 .ensures
-      y'18
-      r'3
-      (End.outs {n = 2}
-      (τs'30 .0, (x'11 .lft, tt))
-      (stage'.ended .signature .params)
-      (stage'.ended .kept)
-      a'18
-      ws'5))
-      (λ ws'6. stage.clauses
-      (Tray.the-row x'11)
-      the-impl.ghosts
-      the-impl.dict
-      𝓤'
-      H'
-      (𝓖' .A)
-      (𝓜' .mem)
-      (𝓡' .returns)
-      τs'30
-      a'18 .ensures
-      y'18
-      r'3
-      (End.outs {n = 2}
-      τs'30
-      (stage.ended (Tray.the-row x'11) the-impl.ghosts the-impl.dict .signature .params)
-      (stage.ended (Tray.the-row x'11) the-impl.ghosts the-impl.dict .kept)
-      a'18
-      ws'6))
-      λ x'14. search ends depth 24 fits 20000)
-      (Table.widened
-      𝓤'
-      H'
-      (Spec.tripleOf
-      𝓤'
-      H'
-      (𝓖' .A)
-      stage'.signature
-      (stage'.spec 𝓤' H' (𝓖' .A) (𝓜' .mem) (𝓡' .returns)))
-      𝓜'
-      𝓡'
-      γ″'
-      (γ″' Symbol''.name)
-      (γ″' (Syntax.method the-impl.dict 2 (Param.layouts List.[] tt)))
-      (Symbol''.as-method
-      γ″'
-      x'8
-      (Syntax.method the-impl.dict 2 (Param.layouts List.[] tt))
-      Path'.refl)
-      (Met''.met 𝓤' H' 𝓜' 𝓖' (Running.within 𝓤' H' 𝓜' 𝓡' γ″') x'8));
-  «move_at» = Impl.implements
-      𝓤'
-      H'
-      (𝓖' .A)
-      move_at'.signature
-      2
-      (move_at.ended (Tray.the-row x'11) the-impl.ghosts the-impl.dict .signature .outlives)
-      (λ τs'31. (τs'31 .0, (x'11 .lft, tt)))
-      (Running.givenOf 𝓤' H' 𝓜' 𝓖')
-      (𝓡' .run (γ″' (Syntax.method the-impl.dict 3 (Param.layouts List.[] tt))))
-      (Table.run-framed
-      𝓤'
-      H'
-      𝓜'
-      𝓡'
-      (γ″' (Syntax.method the-impl.dict 3 (Param.layouts List.[] tt))))
-      (move_at'.spec 𝓤' H' (𝓖' .A) (𝓜' .mem) (𝓡' .returns))
-      (λ τs'32 a'19. record {
-        ghost = move_at.spec
-            (Tray.the-row x'11)
-            the-impl.ghosts
-            the-impl.dict
-            𝓤'
-            H'
-            (𝓖' .A)
-            (𝓜' .mem)
-            (𝓡' .returns)
-            τs'32
-            a'19 .ghost;
-        requires = λ y'19. move_at.spec
-            (Tray.the-row x'11)
-            the-impl.ghosts
-            the-impl.dict
-            𝓤'
-            H'
-            (𝓖' .A)
-            (𝓜' .mem)
-            (𝓡' .returns)
-            τs'32
-            a'19 .requires
-            y'19;
-        ensures = move_at.spec
-            (Tray.the-row x'11)
-            the-impl.ghosts
-            the-impl.dict
-            𝓤'
-            H'
-            (𝓖' .A)
-            (𝓜' .mem)
-            (𝓡' .returns)
-            τs'32
-            a'19 .ensures;
-      })
-      1
-      (λ τs'33. (τs'33 .1 .0, tt))
-      (λ τs'34. (Tray.the-row x'11 .lives, tt))
-      ((0, tt), ((1, tt), tt))
-      (λ τs'35 a'20 y'20. Logic.emp 𝓤')
-      (λ τs'36 a'21 y'21. Logic.id⊢
-      𝓤'
-      (move_at.spec
-      (Tray.the-row x'11)
-      the-impl.ghosts
-      the-impl.dict
-      𝓤'
-      H'
-      (𝓖' .A)
-      (𝓜' .mem)
-      (𝓡' .returns)
-      τs'36
-      a'21 .requires
-      y'21))
-      (λ τs'37 h'7. (
-        (
-          BorrowLft.⊑-refl (τs'37 .0),
-          (
-            BorrowLft.⊑-trans
-                (τs'37 .1 .0)
-                (τs'37 .1 .0)
-                (x'11 .lft)
-                (BorrowLft.⊑-refl (τs'37 .1 .0))
-                (BorrowLft.⊑-trans
-                (τs'37 .1 .0)
-                (Tray.the-row x'11 .lives)
-                (x'11 .lft)
-                (h'7 .1 .0)
-                (search Impl.inside depth 24 fits 20000)),
-            tt,
-          ),
-        ),
-        (
-          BorrowLft.⊑-trans
-              (τs'37 .0)
-              (τs'37 .1 .0)
-              (x'11 .lft)
-              (BorrowLft.⊑-trans
-              (τs'37 .0)
-              (τs'37 .0)
-              (τs'37 .1 .0)
-              (BorrowLft.⊑-refl (τs'37 .0))
-              (h'7 .0 .0))
-              (BorrowLft.⊑-trans
-              (τs'37 .1 .0)
-              (Tray.the-row x'11 .lives)
-              (x'11 .lft)
-              (h'7 .1 .0)
-              (search Impl.inside depth 24 fits 20000)),
-          tt,
-        ),
-      ))
-      (λ τs'38 a'22 y'22. y'22)
-      (λ τs'39 h'8 a'23 y'23. Impl.insides-in 𝓤' 0 tt tt (Logic.emp 𝓤') tt)
-      (λ τs'40 a'24 y'24 r'4. Impl.hidden
-      2
-      (τs'40 .0, (x'11 .lft, tt))
-      𝓤'
-      H'
-      (𝓖' .A)
-      (move_at'.signature .params)
-      (move_at'.ended .kept)
-      (Bool.true, (Bool.true, tt))
-      a'24
-      (λ ws'7. move_at'.clauses
-      𝓤'
-      H'
-      (𝓖' .A)
-      (𝓜' .mem)
-      (𝓡' .returns)
-      (τs'40 .0, (x'11 .lft, tt))
-      a'24 .ensures
-      y'24
-      r'4
-      (End.outs {n = 2}
-      (τs'40 .0, (x'11 .lft, tt))
-      (move_at'.ended .signature .params)
-      (move_at'.ended .kept)
-      a'24
-      ws'7))
-      (λ ws'8. move_at.clauses
-      (Tray.the-row x'11)
-      the-impl.ghosts
-      the-impl.dict
-      𝓤'
-      H'
-      (𝓖' .A)
-      (𝓜' .mem)
-      (𝓡' .returns)
-      τs'40
-      a'24 .ensures
-      y'24
-      r'4
-      (End.outs {n = 2}
-      τs'40
-      (move_at.ended (Tray.the-row x'11) the-impl.ghosts the-impl.dict .signature .params)
-      (move_at.ended (Tray.the-row x'11) the-impl.ghosts the-impl.dict .kept)
-      a'24
-      ws'8))
-      λ x'15. search ends depth 24 fits 20000)
-      (Table.widened
-      𝓤'
-      H'
-      (Spec.tripleOf
-      𝓤'
-      H'
-      (𝓖' .A)
-      move_at'.signature
-      (move_at'.spec 𝓤' H' (𝓖' .A) (𝓜' .mem) (𝓡' .returns)))
-      𝓜'
-      𝓡'
-      γ″'
-      (γ″' Symbol.name)
-      (γ″' (Syntax.method the-impl.dict 3 (Param.layouts List.[] tt)))
-      (Symbol.as-method
-      γ″'
-      x'9
-      (Syntax.method the-impl.dict 3 (Param.layouts List.[] tt))
-      Path'.refl)
-      (Met.met 𝓤' H' 𝓜' 𝓖' (Running.within 𝓤' H' 𝓜' 𝓡' γ″') x'9));
-}
+bound = λ γ w0 w1 w2 w3 κ M 𝓤 H 𝓜 𝓖 𝓡.
+    let lft : Ref.NamedLft = record { mir = Syntax.erased; lft = κ } in
+    let row = Tray.the-row lft in
+    let none = Param.layouts [] tt in
+    record {
+      limits = tray-limits;
+      «stage_count» =
+          Impl.implements 𝓤 H (𝓖 .A) own-stage-count.signature _
+          (trait-stage-count.ended row the-impl.ghosts the-impl.dict .signature .outlives) _ (Running.givenOf 𝓤 H 𝓜 𝓖) _
+          (Table.run-framed 𝓤 H 𝓜 𝓡 (γ (Syntax.method the-impl.dict 0 none)))
+          (own-stage-count.spec 𝓤 H (𝓖 .A) (𝓜 .mem) (𝓡 .returns)) _ 1 _ _ ((0, tt), ((1, tt), tt)) _
+          (λ τs a y. Logic.id⊢ 𝓤 _)
+          (λ τs h.
+          let inside = BorrowLft.⊑-trans (τs .1 .0) (row .lives) κ (h .1 .0) (search Impl.inside depth 24 fits 20000) in
+          ((BorrowLft.⊑-refl (τs .0), (inside, tt)), (BorrowLft.⊑-trans (τs .0) (τs .1 .0) κ (h .0 .0) inside, tt)))
+          _ (λ τs h a y. Impl.insides-in 𝓤 0 tt tt (Logic.emp 𝓤) tt)
+          (λ τs a y r.
+          let σs : Lfts 2 = (τs .0, (κ, tt)) in
+          Impl.hidden 2 σs 𝓤 H (𝓖 .A) (own-stage-count.signature .params) (own-stage-count.ended .kept) (true, tt) a
+          (λ ws. own-stage-count.clauses 𝓤 H (𝓖 .A) (𝓜 .mem) (𝓡 .returns) σs a .ensures y r (End.outs {n = 2} σs (own-stage-count.ended .signature .params) (own-stage-count.ended .kept) a ws))
+          (λ ws. trait-stage-count.clauses row the-impl.ghosts the-impl.dict 𝓤 H (𝓖 .A) (𝓜 .mem) (𝓡 .returns) τs a .ensures y r (End.outs {n = 2} τs (trait-stage-count.ended row the-impl.ghosts the-impl.dict .signature .params) (trait-stage-count.ended row the-impl.ghosts the-impl.dict .kept) a ws))
+          (λ x. search ends depth 24 fits 20000))
+          (Table.widened 𝓤 H _ 𝓜 𝓡 γ _ _ (symbol-stage-count.as-method γ w0 _ refl) (met-stage-count.met 𝓤 H 𝓜 𝓖 (Running.within 𝓤 H 𝓜 𝓡 γ) w0));
+      «move_count» =
+          Impl.implements 𝓤 H (𝓖 .A) own-move-count.signature _
+          (trait-move-count.ended row the-impl.ghosts the-impl.dict .signature .outlives) _ (Running.givenOf 𝓤 H 𝓜 𝓖) _
+          (Table.run-framed 𝓤 H 𝓜 𝓡 (γ (Syntax.method the-impl.dict 1 none)))
+          (own-move-count.spec 𝓤 H (𝓖 .A) (𝓜 .mem) (𝓡 .returns)) _ 1 _ _ ((0, tt), ((1, tt), tt)) _
+          (λ τs a y. Logic.id⊢ 𝓤 _)
+          (λ τs h.
+          let inside = BorrowLft.⊑-trans (τs .1 .0) (row .lives) κ (h .1 .0) (search Impl.inside depth 24 fits 20000) in
+          ((BorrowLft.⊑-refl (τs .0), (inside, tt)), (BorrowLft.⊑-trans (τs .0) (τs .1 .0) κ (h .0 .0) inside, tt)))
+          _ (λ τs h a y. Impl.insides-in 𝓤 0 tt tt (Logic.emp 𝓤) tt)
+          (λ τs a y r.
+          let σs : Lfts 2 = (τs .0, (κ, tt)) in
+          Impl.hidden 2 σs 𝓤 H (𝓖 .A) (own-move-count.signature .params) (own-move-count.ended .kept) (true, tt) a
+          (λ ws. own-move-count.clauses 𝓤 H (𝓖 .A) (𝓜 .mem) (𝓡 .returns) σs a .ensures y r (End.outs {n = 2} σs (own-move-count.ended .signature .params) (own-move-count.ended .kept) a ws))
+          (λ ws. trait-move-count.clauses row the-impl.ghosts the-impl.dict 𝓤 H (𝓖 .A) (𝓜 .mem) (𝓡 .returns) τs a .ensures y r (End.outs {n = 2} τs (trait-move-count.ended row the-impl.ghosts the-impl.dict .signature .params) (trait-move-count.ended row the-impl.ghosts the-impl.dict .kept) a ws))
+          (λ x. search ends depth 24 fits 20000))
+          (Table.widened 𝓤 H _ 𝓜 𝓡 γ _ _ (symbol-move-count.as-method γ w1 _ refl) (met-move-count.met 𝓤 H 𝓜 𝓖 (Running.within 𝓤 H 𝓜 𝓡 γ) w1));
+      stage =
+          Impl.implements 𝓤 H (𝓖 .A) own-stage.signature _
+          (trait-stage.ended row the-impl.ghosts the-impl.dict .signature .outlives) _ (Running.givenOf 𝓤 H 𝓜 𝓖) _
+          (Table.run-framed 𝓤 H 𝓜 𝓡 (γ (Syntax.method the-impl.dict 2 none)))
+          (own-stage.spec 𝓤 H (𝓖 .A) (𝓜 .mem) (𝓡 .returns)) _ 1 _ _ ((0, tt), ((1, tt), tt)) _
+          (λ τs a y. Logic.id⊢ 𝓤 _)
+          (λ τs h.
+          let inside = BorrowLft.⊑-trans (τs .1 .0) (row .lives) κ (h .1 .0) (search Impl.inside depth 24 fits 20000) in
+          ((BorrowLft.⊑-refl (τs .0), (inside, tt)), (BorrowLft.⊑-trans (τs .0) (τs .1 .0) κ (h .0 .0) inside, tt)))
+          _ (λ τs h a y. Impl.insides-in 𝓤 0 tt tt (Logic.emp 𝓤) tt)
+          (λ τs a y r.
+          let σs : Lfts 2 = (τs .0, (κ, tt)) in
+          Impl.hidden 2 σs 𝓤 H (𝓖 .A) (own-stage.signature .params) (own-stage.ended .kept) (true, (true, tt)) a
+          (λ ws. own-stage.clauses 𝓤 H (𝓖 .A) (𝓜 .mem) (𝓡 .returns) σs a .ensures y r (End.outs {n = 2} σs (own-stage.ended .signature .params) (own-stage.ended .kept) a ws))
+          (λ ws. trait-stage.clauses row the-impl.ghosts the-impl.dict 𝓤 H (𝓖 .A) (𝓜 .mem) (𝓡 .returns) τs a .ensures y r (End.outs {n = 2} τs (trait-stage.ended row the-impl.ghosts the-impl.dict .signature .params) (trait-stage.ended row the-impl.ghosts the-impl.dict .kept) a ws))
+          (λ x. search ends depth 24 fits 20000))
+          (Table.widened 𝓤 H _ 𝓜 𝓡 γ _ _ (symbol-stage.as-method γ w2 _ refl) (met-stage.met 𝓤 H 𝓜 𝓖 (Running.within 𝓤 H 𝓜 𝓡 γ) w2));
+      «move_at» =
+          Impl.implements 𝓤 H (𝓖 .A) own-move-at.signature _
+          (trait-move-at.ended row the-impl.ghosts the-impl.dict .signature .outlives) _ (Running.givenOf 𝓤 H 𝓜 𝓖) _
+          (Table.run-framed 𝓤 H 𝓜 𝓡 (γ (Syntax.method the-impl.dict 3 none)))
+          (own-move-at.spec 𝓤 H (𝓖 .A) (𝓜 .mem) (𝓡 .returns)) _ 1 _ _ ((0, tt), ((1, tt), tt)) _
+          (λ τs a y. Logic.id⊢ 𝓤 _)
+          (λ τs h.
+          let inside = BorrowLft.⊑-trans (τs .1 .0) (row .lives) κ (h .1 .0) (search Impl.inside depth 24 fits 20000) in
+          ((BorrowLft.⊑-refl (τs .0), (inside, tt)), (BorrowLft.⊑-trans (τs .0) (τs .1 .0) κ (h .0 .0) inside, tt)))
+          _ (λ τs h a y. Impl.insides-in 𝓤 0 tt tt (Logic.emp 𝓤) tt)
+          (λ τs a y r.
+          let σs : Lfts 2 = (τs .0, (κ, tt)) in
+          Impl.hidden 2 σs 𝓤 H (𝓖 .A) (own-move-at.signature .params) (own-move-at.ended .kept) (true, (true, tt)) a
+          (λ ws. own-move-at.clauses 𝓤 H (𝓖 .A) (𝓜 .mem) (𝓡 .returns) σs a .ensures y r (End.outs {n = 2} σs (own-move-at.ended .signature .params) (own-move-at.ended .kept) a ws))
+          (λ ws. trait-move-at.clauses row the-impl.ghosts the-impl.dict 𝓤 H (𝓖 .A) (𝓜 .mem) (𝓡 .returns) τs a .ensures y r (End.outs {n = 2} τs (trait-move-at.ended row the-impl.ghosts the-impl.dict .signature .params) (trait-move-at.ended row the-impl.ghosts the-impl.dict .kept) a ws))
+          (λ x. search ends depth 24 fits 20000))
+          (Table.widened 𝓤 H _ 𝓜 𝓡 γ _ _ (symbol-move-at.as-method γ w3 _ refl) (met-move-at.met 𝓤 H 𝓜 𝓖 (Running.within 𝓤 H 𝓜 𝓡 γ) w3));
+    }
