@@ -66,7 +66,8 @@ Named words k s = T (bit k (getD words s 0))
 
 -- Each call got an answer: an edit that of the program reckoned until then, and a check what it says of that program.
 -- The program `left` is what is reckoned from all calls.
-pub record Answered-all (caps : Caps) (start : Prog) (calls : List Call) (given : List Answer) (left : Prog) : Type 0 where
+pub record Answered-all (caps : Caps) (start : Prog) (calls : List Call) (given : List Answer) (left : Prog)
+    : Type 0 where
   pub each : length given ≡ length calls
   pub answers : (i : ℕ) → i < length calls
       → Answers caps (reckoned caps start calls i) (callAt calls i) (answerAt given i)
@@ -80,7 +81,8 @@ pub record Main (caps : Caps) (start : Prog) (calls : List Call) (given : List A
   pub minutely : (i : ℕ) (rule : Rule) (words : List ℕ) → Accepted calls given i rule words
       → (k s : ℕ) → k < length (linesOf rule)
       → Named words k s ↔ Holds (minute (graph (reckoned caps start calls i))) (ruleAt (linesOf rule) k) s
-  -- two accepted checks of one rule, with no open, mark or lay accepted between them, name the same stages for each line
+  -- two accepted checks of one rule, with no open, mark or lay accepted between them, name for each line the same
+  -- stages
   pub steady : (i j : ℕ) (rule : Rule) (words words′ : List ℕ) → i ≤ j → Quiet calls given i j
       → Accepted calls given i rule words → Accepted calls given j rule words′
       → (k s : ℕ) → k < length (linesOf rule) → Named words k s ↔ Named words′ k s

@@ -9,7 +9,8 @@ use Rattle.session.proofs.session.answer_check.Needs as need
 pub returns-in-Continue-words : need.returns-in-Continue-words
 returns-in-Continue-words g c =
     let l = c .check .last in
-    let n : c .stage-count .result - 0 ≡ length (g .P·Program .meaning (c .args .program .now) .stages) = omega arith in (
+    let n : c .stage-count .result - 0 ≡ length (g .P·Program .meaning (c .args .program .now) .stages) =
+    omega arith in (
       blank,
       memory (l .sheet) (l .reached) (l .shortest) (l .longest),
       blank-enough _ (g .P·Program·met .limits (c .args .program .now)),
