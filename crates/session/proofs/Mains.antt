@@ -1,9 +1,9 @@
 -- The main theorem, of any list of calls.
-use mathlib.Core.Path.{_≡_, refl, sym, _∙_, ap, subst}
+use mathlib.Core.Path.{_≡_, refl, sym, _∙_, subst}
 use mathlib.Core.List.{List, [], _∷_}
-use mathlib.Core.Bool.{Bool, true, false, cond}
+use mathlib.Core.Bool.{Bool, true, false}
 use mathlib.Core.Logic.{_⊎_, inl, inr, ⊎-elim, _↔_}
-use Prim.Native.Nat.{ℕ, zero, suc, _^_, _/_, _%_, min, _≤_, _<_}
+use Prim.Native.Nat.{ℕ, zero, suc, _^_, _%_, _≤_, _<_}
 use native.Mathlib.Nat.{not-suc-le-zero, zero-div}
 use native.Mathlib.Omega.{arith}
 use lib.ListN.{length, getD, take}
@@ -30,12 +30,8 @@ use Rattle.program.proofs.Kept.{step-tidy}
 use Rattle.rules.specs.declared.line.Line.{Line}
 use Rattle.rules.specs.Lines.{ruleAt}
 use Rattle.rules.specs.Postorder.{linesOf}
-use Rattle.reader.specs.Grammar.{Reading}
 use Rattle.reader.proofs.Readings.{one-reading}
 use Rattle.sheet.specs.Sheets.{bit, Names}
-use Rattle.check.specs.declared.faults.CheckFault.{CheckFault}
-use Rattle.check.specs.Outcomes.{Memory, Enough}
-use Rattle.cutting.specs.Minute.{minute}
 use Rattle.cutting.specs.Theorems.{Agree}
 use Rattle.cutting.proofs.Alikes.{holds-open, agree-refl, agree-trans}
 use Rattle.cutting.proofs.Halves.{graph-size}
@@ -45,7 +41,7 @@ use Rattle.session.specs.declared.calls.Call.the-variants as call
 use Rattle.session.specs.declared.calls.Answer.{Answer}
 use Rattle.session.specs.declared.calls.Answer.the-variants.{Edited, Checked}
 use Rattle.session.specs.Reckoned.{after, reckoned}
-use Rattle.session.specs.Answers.{Answered, Answers, changes, accepted}
+use Rattle.session.specs.Answers.{Answers, changes, accepted}
 use Rattle.session.specs.Sessions.{callAt, answerAt, Quiet, Asks, Tells, Accepted, Named, Answered-all, Main}
 
 -- An edit that is no accepted open, mark or lay changes no verdict.

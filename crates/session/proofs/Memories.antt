@@ -1,14 +1,10 @@
 -- The memory that a session hands to its checks is enough for any program.
-use mathlib.Core.Path.{_≡_, _∙_, ap}
-use Prim.Native.Nat.{ℕ, _*_, _-_, _≤_}
+use Prim.Native.Nat.{ℕ, _-_}
 use native.Mathlib.Omega.{arith}
 use lib.ListN.{length, replicate, length-replicate}
 use Rattle.program.specs.Meaning.{Prog, Limits}
-use Rattle.tally.specs.declared.Reach.{Reach}
 use Rattle.tally.specs.declared.Reach.the-variants as reach
-use Rattle.tally.specs.declared.Shortest.{Shortest}
 use Rattle.tally.specs.declared.Shortest.the-variants as shortest
-use Rattle.tally.specs.declared.Longest.{Longest}
 use Rattle.tally.specs.declared.Longest.the-variants as longest
 use Rattle.check.specs.Outcomes.{Memory, memory, Enough}
 
