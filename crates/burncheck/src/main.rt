@@ -3,8 +3,8 @@
 ghost use Prim.Native.Nat.{_≤_};
 ghost use Rattle.std.specs.Vec.{made};
 ghost use lib.ListN.{length};
-use page::faults::PageFault;
-use page::loading::MOST_BYTES;
+use layout::faults::PageFault;
+use layout::loading::MOST_BYTES;
 use page::pages::Summary;
 use program::EditFault;
 use std::error::AnyError;
@@ -73,13 +73,26 @@ fn say(rt: &impl Eprint, summary: Summary) -> io::Result<()> {
     }
 }
 
+// What failed, with the reason that the system gives.
+fn failed(rt: &LibcRuntime, what: &str, reason: io::Error) -> AnyError {
+    match format!(rt.alloc(), "{what}: {reason}") {
+        Ok(words) => words.into(),
+        Err(_) => what.into(),
+    }
+}
+
 // Answers the page on standard input.
 fn run(rt: &LibcRuntime) -> Result<(), AnyError> {
     let mut page = [0u8; ROOM];
-    let have = read_full(&mut rt.stdin(), &mut page)?;
+    let have = match read_full(&mut rt.stdin(), &mut page) {
+        Ok(have) => have,
+        Err(reason) => return Err(failed(rt, "standard input cannot be read", reason)),
+    };
     let mut out = Vec::new(rt.alloc());
     let summary = page::answer(rt.alloc(), &page[0..have], &mut out)?;
-    rt.stdout().write_all(out.as_slice())?;
+    if let Err(reason) = rt.stdout().write_all(out.as_slice()) {
+        return Err(failed(rt, "standard output cannot be written", reason));
+    }
     say(rt, summary)?;
     Ok(())
 }

@@ -1,8 +1,3 @@
-pub mod Decimals
-pub mod Rising
-pub mod Cuts
-pub mod Readings
-pub mod Loads
 pub mod Printed
 pub mod LastLine
 pub mod Told

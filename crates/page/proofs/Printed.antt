@@ -2,13 +2,24 @@
 use mathlib.Core.Path.{_≡_, refl, sym, ap, _∙_}
 use mathlib.Core.Bool.{Bool, true, false, cond}
 use mathlib.Core.List.{List, [], _∷_, _++_}
-use Prim.Native.Nat.{ℕ, _+_, _≤_, _<_}
+use Prim.Native.Nat.{ℕ, _+_, _/_, _%_, _^_, _≤_, _<_}
 use native.Mathlib.Omega.{arith}
 use lib.ListN.{length, getD, take}
 use lib.Chars.{codes}
 use Rattle.std.specs.Written.{decimal}
+use Rattle.std.proofs.shelf.Decimals.{decimal-digit, decimal-step}
 use Rattle.std.proofs.shelf.Lists.{append-assoc, append-nil, take-more, take-all, length-take-le}
 use Rattle.page.specs.Answers.{field, listed, separator, holdsIn, stagesFrom, stagesOf, holdsLine}
+
+-- A number is written by writing its tenth, unless that is 0, and then its last digit.
+pub last-digit : (a z : List ℕ) (n : ℕ) → n < 10 → z ≡ a ++ (48 + n % 10) ∷ [] → z ≡ a ++ decimal n
+last-digit a z n l e = e ∙ ap (λ d. a ++ (48 + d) ∷ []) (omega arith) ∙ ap (λ ds. a ++ ds) (sym (decimal-digit n l))
+
+pub next-digit : (a m z : List ℕ) (n : ℕ) → 10 ≤ n → n < 2 ^ 64 → m ≡ a ++ decimal (n / 10) → z ≡ m ++ (48 + n % 10) ∷ []
+    → z ≡ a ++ decimal n
+next-digit a m z n l h e f =
+    f ∙ ap (λ x. x ++ (48 + n % 10) ∷ []) e ∙ append-assoc a (decimal (n / 10)) ((48 + n % 10) ∷ [])
+    ∙ ap (λ ds. a ++ ds) (sym (decimal-step n l h))
 
 -- Three pieces, one behind the other.
 pub three-pieces : (a x y z b m o : List ℕ) → m ≡ a ++ x → o ≡ m ++ y → b ≡ o ++ z → b ≡ a ++ (x ++ (y ++ z))

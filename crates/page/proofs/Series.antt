@@ -11,16 +11,16 @@ use Rattle.std.specs.declared.result.Result.the-variants.{Ok, Err}
 use Rattle.std.specs.Results.{isOk}
 use Rattle.program.specs.Meaning.{Prog}
 use Rattle.program.specs.Edits.{Caps}
-use Rattle.page.specs.declared.loading.Part.{Part}
-use Rattle.page.specs.declared.loading.Part.the-variants.{Stages, Moves, Rules}
-use Rattle.page.specs.Splits.{Lacks}
-use Rattle.page.specs.Lines.{Line, stage, move, rule, write}
-use Rattle.page.specs.Pages.{bytesOf, rulesOf, textsOf, Follows, InForm, NoLine, Whole}
+use Rattle.layout.specs.declared.loading.Part.{Part}
+use Rattle.layout.specs.declared.loading.Part.the-variants.{Stages, Moves, Rules}
+use Rattle.layout.specs.Splits.{Lacks}
+use Rattle.layout.specs.Lines.{Line, stage, move, rule, write}
+use Rattle.layout.specs.Pages.{bytesOf, rulesOf, textsOf, Follows, InForm, NoLine, Whole}
 use Rattle.page.specs.Answers.{Answer, ruleBytes}
 use Rattle.page.specs.Console.{Answers, AllAnswered, bytesFrom, checkedAmong, Texts, Adds, AddsAll}
 use Rattle.page.specs.Whole.{PageAnswered}
-use Rattle.page.proofs.Cuts.{one-cut}
-use Rattle.page.proofs.Readings.{line-lacks-end}
+use Rattle.layout.proofs.Cuts.{one-cut}
+use Rattle.layout.proofs.Readings.{line-lacks-end}
 
 rules-push : (texts : List (List ℕ)) (text rest : List ℕ)
     → rulesOf (texts ++ text ∷ []) ++ rest ≡ rulesOf texts ++ (write (rule text) ++ 10 ∷ rest)

@@ -11,7 +11,7 @@ use Rattle.check.specs.declared.faults.CheckFault.{CheckFault}
 use Rattle.check.specs.Faults as check
 use Rattle.page.specs.declared.faults.ConsoleFault.{ConsoleFault}
 use Rattle.page.specs.declared.faults.ConsoleFault.the-variants.{Page, Rule}
-use Rattle.page.specs.Faults.{faultNumber, faultLine}
+use Rattle.layout.specs.Faults.{faultNumber, faultLine}
 
 -- A line with a name (its `=` too) and a number.
 abbrev pub field : List ℕ → ℕ → List ℕ

@@ -20,10 +20,10 @@ use Rattle.check.specs.declared.faults.CheckFault.{CheckFault}
 use Rattle.check.specs.declared.faults.CheckFault.the-variants.{Text, NoStage, DeadEnd, StillCycle, ShortMemory}
 use Rattle.check.specs.Outcomes.{Checkable, Dead-end, All-onward, Cycle}
 use Rattle.check.specs.Checks.{Reads}
-use Rattle.page.specs.declared.loading.Part.the-variants.{Rules}
-use Rattle.page.specs.Splits.{Lacks}
-use Rattle.page.specs.Lines.{write, rule}
-use Rattle.page.specs.Pages.{NoLine, rulesOf}
+use Rattle.layout.specs.declared.loading.Part.the-variants.{Rules}
+use Rattle.layout.specs.Splits.{Lacks}
+use Rattle.layout.specs.Lines.{write, rule}
+use Rattle.layout.specs.Pages.{NoLine, rulesOf}
 use Rattle.page.specs.Answers.{Answer, ruleBytes}
 
 -- Numbers in rising order, from b on.

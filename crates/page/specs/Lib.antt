@@ -1,10 +1,3 @@
-pub mod Reading
-pub mod Numbers
-pub mod Letters
-pub mod Splits
-pub mod Lines
-pub mod Pages
-pub mod Faults
 pub mod Answers
 pub mod Console
 pub mod Whole

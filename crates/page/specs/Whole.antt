@@ -8,8 +8,8 @@ use Rattle.program.specs.Edits.{Caps}
 use Rattle.page.specs.declared.faults.ConsoleFault.the-variants.{Page}
 use Rattle.page.specs.declared.pages.Summary.{Summary}
 use Rattle.page.specs.declared.pages.Summary.the-variants.{Answered, Refused}
-use Rattle.page.specs.Lines.{Line}
-use Rattle.page.specs.Pages.{mostBytes, Took, textsOf, Refuses}
+use Rattle.layout.specs.Lines.{Line}
+use Rattle.layout.specs.Pages.{mostBytes, Took, textsOf, Refuses}
 use Rattle.page.specs.Answers.{Answer, refused}
 use Rattle.page.specs.Console.{AllAnswered, bytesFrom, checkedAmong}
 
@@ -35,7 +35,8 @@ pub record PageAnswered (caps : Caps) (start : Prog) (page bytes : List ℕ) (st
 abbrev pub Answers-page : Caps → Prog → List ℕ → List ℕ → Summary → Type 0
 Answers-page caps start page bytes (Answered stages moves rules) =
     PageAnswered caps start page bytes stages moves (rules .checked) (rules .refused)
-Answers-page caps start page bytes (Refused fault) = Refuses caps start page fault × (bytes ≡ refused (Page fault))
+Answers-page caps start page bytes (Refused fault) =
+    ((left : Prog) × Refuses caps start page fault left) × (bytes ≡ refused (Page fault))
 
 -- The answer to a page is appended to the bytes before.
 pub record AddsPage (caps : Caps) (start : Prog) (page before after : List ℕ) (summary : Summary) : Type 0 where

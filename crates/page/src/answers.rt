@@ -7,13 +7,24 @@ ghost use Rattle.std.specs.Written.{decimal};
 ghost use Rattle.std.specs.Of.Vec.{vec-items};
 ghost use Rattle.page.specs.Answers.{field, separator, holdsIn, stagesOf, holdsLine, refused, answerOf, ruleBytes, Lined};
 use crate::faults::ConsoleFault;
-use crate::number::write_number;
 use check::faults::CheckFault;
 use std::alloc::AllocError;
 
+// Appends a number to `out`.
+fn write_number(out: &mut Vec<u8>, number: usize) -> Result<(), AllocError>
+    ensures { λ r. ⌜ made r (λ _. vec-items (now (out .exit)) ≡ vec-items (now (out .entry)) ++ decimal number) ⌝ }
+{
+    if number >= 10 {
+        write_number(out, number / 10)?;
+    }
+    out.push(b'0' + (number % 10) as u8)?;
+    Ok(())
+}
+
 // Appends a line with a name, which has its `=`, and a number.
 pub(crate) fn write_field(out: &mut Vec<u8>, name: &[u8], number: usize) -> Result<(), AllocError>
-    ensures { λ r. ⌜ made r (λ _. vec-items (now (out .exit)) ≡ vec-items (now (out .entry)) ++ field (now (name .entry)) number) ⌝ }
+    ensures { λ r. ⌜ made r (λ _. vec-items (now (out .exit))
+        ≡ vec-items (now (out .entry)) ++ field (now (name .entry)) number) ⌝ }
 {
     out.extend_from_slice(name)?;
     write_number(out, number)?;
@@ -31,7 +42,8 @@ fn holds_in(line: usize, word: u32) -> bool
 
 // Appends a number to a list of numbers, behind a comma where the list has begun.
 fn write_next(out: &mut Vec<u8>, begun: bool, number: usize) -> Result<(), AllocError>
-    ensures { λ r. ⌜ made r (λ _. vec-items (now (out .exit)) ≡ vec-items (now (out .entry)) ++ (separator begun ++ decimal number)) ⌝ }
+    ensures { λ r. ⌜ made r (λ _. vec-items (now (out .exit))
+        ≡ vec-items (now (out .entry)) ++ (separator begun ++ decimal number)) ⌝ }
 {
     if begun {
         out.push(b',')?;
@@ -43,7 +55,8 @@ fn write_next(out: &mut Vec<u8>, begun: bool, number: usize) -> Result<(), Alloc
 // Appends the line with the stages at which a line of a rule holds.
 pub(crate) fn write_holds(out: &mut Vec<u8>, line: usize, sheet: &[u32]) -> Result<(), AllocError>
     requires { ⌜ line < 32 ⌝ }
-    ensures { λ r. ⌜ made r (λ _. vec-items (now (out .exit)) ≡ vec-items (now (out .entry)) ++ holdsLine (stagesOf line (now (sheet .entry)))) ⌝ }
+    ensures { λ r. ⌜ made r (λ _. vec-items (now (out .exit))
+        ≡ vec-items (now (out .entry)) ++ holdsLine (stagesOf line (now (sheet .entry)))) ⌝ }
 {
     out.extend_from_slice(b"holds=")?;
     let mut begun = false;
@@ -83,7 +96,8 @@ pub(crate) fn write_rule(
     sheet: &[u32],
 ) -> Result<(), AllocError>
     requires { ⌜ Lined answer ⌝ }
-    ensures { λ r. ⌜ made r (λ _. vec-items (now (out .exit)) ≡ vec-items (now (out .entry)) ++ ruleBytes number (answerOf answer (now (sheet .entry)))) ⌝ }
+    ensures { λ r. ⌜ made r (λ _. vec-items (now (out .exit))
+        ≡ vec-items (now (out .entry)) ++ ruleBytes number (answerOf answer (now (sheet .entry)))) ⌝ }
 {
     write_field(out, b"rule=", number)?;
     match answer {

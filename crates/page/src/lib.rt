@@ -3,13 +3,8 @@
 // store then holds. Rests on the check, on the tray, and, below them, on programs, rules and the theory of runs.
 mod answers;
 pub mod faults;
-pub mod line;
-pub mod loading;
-pub mod marks;
-pub mod number;
 pub mod pages;
 pub mod rules;
-mod split;
 
 ghost use Rattle.std.specs.Vec.{made};
 ghost use Rattle.std.specs.Of.Vec.{vec-items};

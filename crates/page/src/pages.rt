@@ -4,14 +4,14 @@ ghost use Rattle.std.specs.Of.Vec.{vec-items};
 ghost use Rattle.page.specs.Whole.{AddsPage};
 use crate::answers::write_refused;
 use crate::faults::ConsoleFault;
-use crate::faults::PageFault;
-use crate::faults::PageFaultDebug;
-use crate::faults::PageFaultPartialEq;
-use crate::loading::load;
 use crate::rules::Counts;
 use crate::rules::CountsDebug;
 use crate::rules::CountsPartialEq;
 use crate::rules::answer_rules;
+use layout::faults::PageFault;
+use layout::faults::PageFaultDebug;
+use layout::faults::PageFaultPartialEq;
+use layout::loading::load;
 use program::Store;
 use std::alloc::AllocError;
 

@@ -3,7 +3,7 @@ use mathlib.Core.List.{_++_}
 use lib.Chars.{codes}
 use Rattle.std.specs.Of.Vec.{vec-items}
 use Rattle.check.specs.Faults as check
-use Rattle.page.specs.Faults.{faultNumber}
+use Rattle.layout.specs.Faults.{faultNumber}
 use Rattle.page.specs.Answers.{field, refused}
 use Rattle.page.proofs.Printed.{two-pieces}
 use Rattle.page.proofs.answers.write_refused.Needs as need

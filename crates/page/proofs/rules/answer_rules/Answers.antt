@@ -1,7 +1,7 @@
 use native.Mathlib.Omega.{arith}
 use Rattle.std.specs.Of.Vec.{vec-items}
-use Rattle.page.specs.Lines.{rule}
-use Rattle.page.proofs.Loads.{shorter}
+use Rattle.layout.specs.Lines.{rule}
+use Rattle.layout.proofs.Loads.{shorter}
 use Rattle.page.proofs.Series.{none-answered, few-rules, one-checked, one-refused, all-answered}
 use Rattle.page.proofs.rules.answer_rules.Needs as need
 

@@ -1,5 +1,0 @@
-use Rattle.page.proofs.Readings.{same-line}
-use Rattle.page.proofs.line.line_reads_one_way.Needs as need
-
-pub returns : need.returns
-returns c = same-line

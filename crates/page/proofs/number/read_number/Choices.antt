@@ -1,5 +1,0 @@
-use Rattle.page.proofs.Decimals.{Front}
-use Rattle.page.proofs.number.read_number.Given as given
-
-abbrev pub Inv-loop-b : given.InvT-loop-b
-Inv-loop-b l = Front (l .text) (l .b-index) (l .value)
