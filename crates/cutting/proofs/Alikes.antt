@@ -4,13 +4,11 @@ use Prim.Native.Nat.{ℕ, _≤_, _<_}
 use Rattle.std.proofs.shelf.Tests.{cases-lt}
 use native.Mathlib.Omega.{arith}
 use Rattle.tctl.specs.Graph.{Graph, Open, size}
-use Rattle.tctl.specs.Runs.{Ends}
 use Rattle.tctl.specs.Rules.{Rule, one, letter, not, both, either, some-run, each-run}
 use Rattle.tctl.specs.Holds.{Holds}
-use Rattle.tctl.specs.Refine.{Refines}
 use Rattle.tctl.proofs.Refined.{refinement-keeps}
 use Rattle.tctl.proofs.Common.{open-fits}
-use Rattle.cutting.specs.Theorems.{Alike, Agree, Refined-alike}
+use Rattle.cutting.specs.Theorems.{Agree, Refined-alike}
 
 -- a rule holds at open stages only
 pub holds-open : (g : Graph) (f : Rule) (s : ℕ) → Holds g f s → Open g s

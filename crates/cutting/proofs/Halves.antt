@@ -2,13 +2,13 @@
 use mathlib.Core.Path.{_≡_, refl, sym, _∙_, ap, subst}
 use mathlib.Core.List.{List, [], _∷_, _++_, map}
 use mathlib.Core.Bool.{Bool, true, false}
-use mathlib.Core.Logic.{_⊎_, inl, inr, ⊎-elim, _↔_}
+use mathlib.Core.Logic.{_⊎_, ⊎-elim, _↔_}
 use Prim.Native.Nat.{ℕ, zero, suc, _+_, _≤_, _<_}
 use native.Mathlib.Omega.{arith}
 use lib.ListN.{length, getD}
 use lib.Dec.{T, eqb}
-use Rattle.std.proofs.shelf.Lists.{length-map, map-append, getD-append-left, getD-push}
-use Rattle.std.proofs.shelf.Tests.{cases-eq, eqb-true, eqb-false, eq-eqb}
+use Rattle.std.proofs.shelf.Lists.{length-map, map-append, getD-push}
+use Rattle.std.proofs.shelf.Tests.{eqb-true, eqb-false, eq-eqb}
 use Rattle.tctl.specs.Graph as timed
 use Rattle.tctl.specs.Runs.{Ends, Sound}
 use Rattle.tctl.specs.Refine.{Refines, span}
@@ -19,14 +19,14 @@ use Rattle.program.specs.declared.Kind.the-variants.{Silent}
 use Rattle.program.specs.declared.Stage.{Stage}
 use Rattle.program.specs.declared.Move.{Move}
 use Rattle.program.specs.Meaning.{Prog, noMove, moveAt}
-use Rattle.program.specs.Edits.{isOpen, withCut, withJoin, lastStage}
+use Rattle.program.specs.Edits.{isOpen, withCut, withJoin}
 use Rattle.program.specs.Graphs.{timedStage, timedMove, graph}
-use Rattle.program.specs.Tidy.{Tidy, SilentAt}
+use Rattle.program.specs.Tidy.{Tidy}
 use Rattle.program.proofs.Splits.{Split, size, count, split-size, sort, leaves-up, enters-up, minutes-up, only-out}
 use Rattle.program.proofs.Splits.{split-from, split-to}
 use Rattle.program.proofs.Cuts.{cut-splits, join-splits}
 use Rattle.cutting.specs.Minute.{silent-one}
-use Rattle.cutting.specs.Theorems.{Alike, Agree, Cut-refines, Join-refines}
+use Rattle.cutting.specs.Theorems.{Agree, Cut-refines, Join-refines}
 use Rattle.cutting.proofs.Alikes.{refined-alike}
 
 -- The graph of a program

@@ -1,15 +1,14 @@
 -- The minute program refines the program, and may be checked exactly if the program may.
 use mathlib.Core.Path.{_≡_, refl, sym, _∙_, ap, subst}
-use mathlib.Core.List.{List, [], _∷_, _++_}
-use mathlib.Core.Bool.{Bool, true, false}
+use mathlib.Core.List.{List, [], _∷_}
 use mathlib.Core.Logic.{_⊎_, inl, inr, ⊎-elim, _↔_}
 use Prim.Native.Nat.{ℕ, zero, suc, _+_, _-_, _≤_, _<_}
-use native.Mathlib.Nat.{not-suc-le-zero, add-zero, zero-add, add-assoc, add-suc, suc-add}
+use native.Mathlib.Nat.{not-suc-le-zero, add-zero, zero-add, add-suc, suc-add}
 use native.Mathlib.Omega.{arith}
 use lib.ListN.{length, getD, replicate, length-append, length-replicate}
 use lib.Dec.{T}
 use Rattle.std.proofs.shelf.Lists.{getD-append-left, getD-append-add, getD-append-right}
-use Rattle.std.proofs.shelf.Tests.{cases-eq, cases-lt, cases-order}
+use Rattle.std.proofs.shelf.Tests.{cases-lt, cases-order}
 use Rattle.tctl.specs.Graph.{Graph, Stage, Move, Open, size, count, moveAt}
 use Rattle.tctl.specs.Runs.{Ends, Sound}
 use Rattle.tctl.specs.Refine.{Refines, span}

@@ -1,7 +1,5 @@
 -- Cuts, joins and the minute program change no verdict, and every edit keeps a program tidy.
-use mathlib.Core.Path.{_≡_}
-use mathlib.Core.Bool.{true, false, cond}
-use Prim.Native.Nat.{ℕ, _≤_, _<_}
+use Prim.Native.Nat.{ℕ}
 use lib.ListN.{length}
 use lib.Dec.{ltb, leb}
 use Rattle.std.proofs.shelf.Tests.{cond-both, ltb-true, leb-true}

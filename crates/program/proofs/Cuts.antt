@@ -2,7 +2,7 @@
 use mathlib.Core.Path.{_≡_, refl, sym, _∙_, ap, subst}
 use mathlib.Core.List.{List, [], _∷_, _++_}
 use mathlib.Core.Bool.{Bool, true, false, cond}
-use mathlib.Core.Logic.{_⊎_, inl, inr, ⊎-elim}
+use mathlib.Core.Logic.{_⊎_, ⊎-elim}
 use Prim.Native.Nat.{ℕ, zero, suc, _+_, _-_, _≤_, _<_}
 use native.Mathlib.Nat.{not-suc-le-zero}
 use native.Mathlib.Omega.{arith}
@@ -17,7 +17,7 @@ use Rattle.program.specs.declared.Kind.the-variants.{Open, Silent}
 use Rattle.program.specs.declared.Move.{Move}
 use Rattle.program.specs.Meaning.{Prog, noStage, noMove, stageAt, moveAt, mostMinutes}
 use Rattle.program.specs.Edits.{leads, withCut, withJoin, first, moveInto, moveOutOf, lastStage}
-use Rattle.program.specs.Tidy.{OpenAt, SilentAt, JustOne, Way, there, on, Onward, Tidy}
+use Rattle.program.specs.Tidy.{SilentAt, Way, there, on, Tidy}
 use Rattle.program.proofs.Splits.{Split, size, count, not-both}
 
 -- Cut

@@ -11,7 +11,7 @@ use Rattle.std.proofs.shelf.Tests.{cases-eq}
 use Rattle.program.specs.declared.Kind.the-variants.{Open, Silent}
 use Rattle.program.specs.declared.Stage.{Stage}
 use Rattle.program.specs.declared.Move.{Move}
-use Rattle.program.specs.Meaning.{Prog, noStage, stageAt, moveAt, mostMinutes, Fits}
+use Rattle.program.specs.Meaning.{Prog, noStage, stageAt, moveAt}
 use Rattle.program.specs.Tidy.{OpenAt, SilentAt, JustOne, Way, there, on, Onward, Tidy}
 
 abbrev pub size : Prog → ℕ

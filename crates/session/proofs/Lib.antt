@@ -1,1 +1,3 @@
+pub mod Memories
 pub mod Mains
+pub mod Grows

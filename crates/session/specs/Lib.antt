@@ -1,2 +1,3 @@
 pub mod Reckoned
-pub mod Mains
+pub mod Answers
+pub mod Sessions

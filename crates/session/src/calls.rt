@@ -1,4 +1,5 @@
 // The calls on a store, and their answers.
+use check::CheckFault;
 use program::EditFault;
 use program::edit::Edit;
 
@@ -9,10 +10,22 @@ pub enum Call {
     Check(Vec<u8>),
 }
 
-// What a call was answered: an edit its number or refusal, and a check the words of its sheet, one a stage, or its
-// refusal.
+// What an accepted check tells: how many lines its rule has, and a word for each stage, in which value 2^k is set for
+// the lines k that hold there.
 #[derive(Drop)]
-pub enum Answer<F> {
+pub struct Verdict {
+    pub lines: usize,
+    pub words: Vec<u32>,
+}
+
+#[derive(Drop)]
+pub enum Answer {
     Edited(Result<usize, EditFault>),
-    Checked(Result<Vec<u32>, F>),
+    Checked(Result<Verdict, CheckFault>),
+}
+
+// There was no memory for the next answer. The calls that these answer were made, and no other.
+#[derive(Drop)]
+pub struct OutOfMemory {
+    pub answers: Vec<Answer>,
 }
