@@ -16,10 +16,10 @@ use Rattle.signs.proofs.Letters.{Fair, signs-fair}
 use Rattle.reader.specs.declared.draft.Draft.{Draft}
 use Rattle.reader.specs.Drafts.{Drawn}
 use Rattle.reader.specs.Parts.{spell-formula, tree-formula}
-use Rattle.reader.specs.Reads.{Took, No-joint}
 use Rattle.reader.specs.Grammar.{Reading}
 use Rattle.reader.proofs.Letters.{formula-lettered}
 use Rattle.reader.proofs.Readings.{reading-from}
+use Rattle.reader.proofs.Steps.{TookRule}
 
 pub record Whole (text : List ℕ) (d : Draft) : Type 0 where
   pub rule : tree.Rule
@@ -27,7 +27,7 @@ pub record Whole (text : List ℕ) (d : Draft) : Type 0 where
   pub drawn : Drawn d (linesOf rule)
   pub lettered : Lettered rule
 
-pub whole : {text rest : List ℕ} {d0 d : Draft} → Took spell-formula tree-formula No-joint text rest d0 d → Drawn d0 [] → signs rest ≡ [] → Whole text d
+pub whole : {text rest : List ℕ} {d0 d : Draft} → TookRule text rest d0 d → Drawn d0 [] → signs rest ≡ [] → Whole text d
 whole {text} h w n =
     let e = h .splits ∙ ap (spell-formula (h .part)) n in
     record {
@@ -56,4 +56,5 @@ module _ {text : List ℕ} {d : Draft} (w : Whole text d) where
       ap (λ i. take i (d .lines)) k ∙ w .drawn .kept (small s) (few l)
 
   pub formed : d .large ≡ false → d .count ≤ 32 → Well-formed (take (d .count) (d .lines))
-  formed s l = subst Well-formed (sym (kept s l)) (put-formed (w .rule) [] (w .lettered) (λ k h. absurd (omega arith)) (small s))
+  formed s l =
+      subst Well-formed (sym (kept s l)) (put-formed (w .rule) [] (w .lettered) (λ k h. absurd (omega arith)) (small s))

@@ -10,13 +10,15 @@ use Rattle.tctl.specs.Rules.{Rule}
 use Rattle.rules.specs.declared.line.Bound.{Bound}
 use Rattle.rules.specs.declared.line.Bound.the-variants.{AtMost, AtLeast}
 use Rattle.rules.specs.declared.line.Line.{Line}
+use Rattle.rules.specs.declared.line.Quantifier.{Quantifier}
 use Rattle.rules.specs.Postorder.{put}
 use Rattle.signs.specs.declared.Sign.{Sign}
 use Rattle.signs.specs.declared.Sign.the-variants.{Amp, Bar}
 use Rattle.signs.specs.Signs.{signs, cap}
 use Rattle.reader.specs.declared.draft.Draft.{Draft}
 use Rattle.reader.specs.Drafts.{Drawn}
-use Rattle.reader.specs.Parts.{Limit, spell-limit, bound-of}
+use Rattle.reader.specs.Parts.{Limit, spell-limit, bound-of, spell-formula, spell-term, spell-item, spell-body}
+use Rattle.reader.specs.Parts.{tree-formula, tree-term, tree-item, tree-body}
 
 -- the signs do not go on with s
 abbrev pub Without : Sign → List Sign → Type 0
@@ -33,7 +35,8 @@ abbrev pub No-joint : List Sign → Type 0
 No-joint ss = Without Amp ss × Without Bar ss
 
 -- the text is a part of the grammar, written out by spell, and then rest; the lines of its tree are noted
-pub record Took {F : Type 0} (spell : F → List Sign → List Sign) (tree : F → Rule) (Stop : List Sign → Type 0) (text rest : List ℕ) (before after : Draft) : Type 0 where
+pub record Took {F : Type 0} (spell : F → List Sign → List Sign) (tree : F → Rule) (Stop : List Sign → Type 0)
+    (text rest : List ℕ) (before after : Draft) : Type 0 where
   pub part : F
   pub splits : signs text ≡ spell part (signs rest)
   pub adds : (ls : List Line) → Drawn before ls → Drawn after (put (tree part) ls)
@@ -44,9 +47,24 @@ pub record Took {F : Type 0} (spell : F → List Sign → List Sign) (tree : F �
 abbrev pub Lacks : {F : Type 0} → (F → List Sign → List Sign) → (List Sign → Type 0) → List ℕ → Type 0
 Lacks {F} spell Stop text = (p : F) (ss : List Sign) → signs text ≡ spell p ss → Stop ss → ⊥
 
-abbrev pub Reads : {F : Type 0} → (F → List Sign → List Sign) → (F → Rule) → (List Sign → Type 0) → List ℕ → Draft → Draft → Option (RefT (List ℕ)) → Type 0
+abbrev pub Reads : {F : Type 0} → (F → List Sign → List Sign) → (F → Rule) → (List Sign → Type 0) → List ℕ → Draft
+    → Draft → Option (RefT (List ℕ)) → Type 0
 Reads spell tree Stop text before after (option.Some rest) = Took spell tree Stop text (now rest) before after
 Reads spell tree Stop text before after option.None = Lacks spell Stop text
+
+-- a rule is read up to what is neither | nor &, a term up to what is no &
+abbrev pub ReadsRule : List ℕ → Draft → Draft → Option (RefT (List ℕ)) → Type 0
+ReadsRule text before after r = Reads spell-formula tree-formula No-joint text before after r
+
+abbrev pub ReadsTerm : List ℕ → Draft → Draft → Option (RefT (List ℕ)) → Type 0
+ReadsTerm text before after r = Reads spell-term tree-term No-amp text before after r
+
+abbrev pub ReadsItem : List ℕ → Draft → Draft → Option (RefT (List ℕ)) → Type 0
+ReadsItem text before after r = Reads spell-item tree-item Anything text before after r
+
+-- what stands after E or A
+abbrev pub ReadsBody : Quantifier → List ℕ → Draft → Draft → Option (RefT (List ℕ)) → Type 0
+ReadsBody q text before after r = Reads spell-body (tree-body q) Anything text before after r
 
 -- a bound as the code tells it
 abbrev pub told-bound : Bound → Bound

@@ -8,7 +8,8 @@ use borrow.Author.Tests.{leb-true}
 use lib.Dec.{eqb, leb}
 use Rattle.std.specs.shelf.Lists.{All}
 use Rattle.signs.specs.declared.Sign.{Sign}
-use Rattle.signs.specs.declared.Sign.the-variants.{Open, Close, OpenSquare, CloseSquare, Bang, Amp, Bar, Each, Until, UntilAtMost, UntilAtLeast, Letter, Number, Bad}
+use Rattle.signs.specs.declared.Sign.the-variants.{Open, Close, OpenSquare, CloseSquare, Bang, Amp, Bar, Each, Until}
+use Rattle.signs.specs.declared.Sign.the-variants.{UntilAtMost, UntilAtLeast, Letter, Number, Bad}
 use Rattle.signs.specs.Signs.{between, digit, run, pair, plain, sign, more, signsAfter, signs}
 
 abbrev pub Fair : Sign → Type 0
@@ -39,9 +40,12 @@ between-fair b false y p q = tt
 
 plain-fair : (b : ℕ) → Fair (plain b)
 plain-fair b =
-    by-cond Fair (eqb b 40) _ _ (λ _. tt) (λ _. by-cond Fair (eqb b 41) _ _ (λ _. tt) (λ _. by-cond Fair (eqb b 91) _ _ (λ _. tt)
-    (λ _. by-cond Fair (eqb b 93) _ _ (λ _. tt) (λ _. by-cond Fair (eqb b 33) _ _ (λ _. tt) (λ _. by-cond Fair (eqb b 38) _ _ (λ _. tt)
-    (λ _. by-cond Fair (eqb b 124) _ _ (λ _. tt) (λ _. by-cond Fair (eqb b 69) _ _ (λ _. tt) (λ _. by-cond Fair (eqb b 65) _ _ (λ _. tt)
+    by-cond Fair (eqb b 40) _ _ (λ _. tt) (λ _. by-cond Fair (eqb b 41) _ _ (λ _. tt)
+    (λ _. by-cond Fair (eqb b 91) _ _ (λ _. tt)
+    (λ _. by-cond Fair (eqb b 93) _ _ (λ _. tt) (λ _. by-cond Fair (eqb b 33) _ _ (λ _. tt)
+    (λ _. by-cond Fair (eqb b 38) _ _ (λ _. tt)
+    (λ _. by-cond Fair (eqb b 124) _ _ (λ _. tt) (λ _. by-cond Fair (eqb b 69) _ _ (λ _. tt)
+    (λ _. by-cond Fair (eqb b 65) _ _ (λ _. tt)
     (λ _. between-fair b (leb 97 b) (leb b 112) refl refl)))))))))
 
 sign-fair : (b : ℕ) (bs : List ℕ) → Fair (sign b bs)

@@ -101,8 +101,8 @@ taken {t0} {text} {rest} {s} b k p e h =
     let u = subst (λ c. Takes c (drop 1 text) s rest) (sym e) t in
     (sign (getD text 0 0) (drop 1 text), u .first, begins text k p (u .left))
 
-pub takes : {b : ℕ} {bs rest : List ℕ} {s : Sign} (t : Sign) (m : ℕ) → (sign b bs ≡ t) × (more b bs ≡ m)
-    → s ≡ told t → rest ≡ drop m bs → Takes b bs s rest
+pub takes : {b : ℕ} {bs rest : List ℕ} {s : Sign} (t : Sign) (m : ℕ) → (sign b bs ≡ t) × (more b bs ≡ m) → s ≡ told t
+    → rest ≡ drop m bs → Takes b bs s rest
 takes {bs = bs} t m p u v = record { first = u ∙ ap told (sym (p .0)); left = v ∙ ap (λ k. drop k bs) (sym (p .1)) }
 
 -- a letter, and a byte that begins no sign
@@ -154,8 +154,7 @@ none-begins b bs f n85 n40 n41 n91 n93 n33 n38 n124 n69 n65 n =
     let e38 : eqb b 38 ≡ false = ne-eqb b 38 n38 in
     let e124 : eqb b 124 ≡ false = ne-eqb b 124 n124 in
     let e69 : eqb b 69 ≡ false = ne-eqb b 69 n69 in
-    let e65 : eqb b 65 ≡ false = ne-eqb b 65 n65 in
-    (
+    let e65 : eqb b 65 ≡ false = ne-eqb b 65 n65 in (
       rw (e85, e48, d, e40, e41, e91, e93, e33, e38, e124, e69, e65) (go (leb 97 b) refl (leb b 112) refl),
       other-more b bs n85 d,
     )

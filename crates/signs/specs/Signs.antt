@@ -6,7 +6,8 @@ use Prim.Native.Nat.{ℕ, zero, suc, _+_, _-_, _*_, _<_, min}
 use lib.Dec.{eqb, leb}
 use Rattle.rules.specs.declared.line.Quantifier.the-variants.{Some, All}
 use Rattle.signs.specs.declared.Sign.{Sign}
-use Rattle.signs.specs.declared.Sign.the-variants.{Open, Close, OpenSquare, CloseSquare, Bang, Amp, Bar, Each, Until, UntilAtMost, UntilAtLeast, Letter, Number, Bad}
+use Rattle.signs.specs.declared.Sign.the-variants.{Open, Close, OpenSquare, CloseSquare, Bang, Amp, Bar, Each, Until}
+use Rattle.signs.specs.declared.Sign.the-variants.{UntilAtMost, UntilAtLeast, Letter, Number, Bad}
 
 abbrev pub between : ℕ → ℕ → ℕ → Bool
 between low high b = cond (leb low b) (leb b high) false

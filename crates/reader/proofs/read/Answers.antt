@@ -9,8 +9,11 @@ pub returns-in-rest : need.returns-in-rest
 returns-in-rest c = (omega arith, λ f r. let p = reading-to r in c .in-rest .ensures tt (p .0) [] (p .1) (tt, tt))
 
 pub returns-in-Some-next-sign : need.returns-in-Some-next-sign
-returns-in-Some-next-sign c =
-    (omega arith, λ f r. let p = reading-to r in trailing (c .in-Some .ensures tt) (c .in-Some-next-sign .ensures tt .2) (p .0) (p .1))
+returns-in-Some-next-sign c = (
+  omega arith,
+  λ f r. let p = reading-to r in trailing (c .in-Some .ensures tt) (c .in-Some-next-sign .ensures tt .2)
+      (p .0) (p .1),
+)
 
 pub returns-then-draft : need.returns-then-draft
 returns-then-draft c =

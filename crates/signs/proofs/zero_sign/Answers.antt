@@ -6,7 +6,8 @@ use lib.ListN.{getD, length}
 use Rattle.signs.specs.declared.Sign.the-variants.{Number, Bad}
 use Rattle.signs.proofs.Lexing.{takes, zero-bad, zero-good}
 use Rattle.signs.proofs.zero_sign.Needs as need
-use Rattle.signs.proofs.zero_sign.Needs.{in-rest·by·then-rest-lt1, in-rest·by·else-rest-lt1·then-rest-lt48, in-rest·by·else-rest-lt1·else-rest-lt48·else-rest-lt58}
+use Rattle.signs.proofs.zero_sign.Needs.{in-rest·by·then-rest-lt1, in-rest·by·else-rest-lt1·then-rest-lt48}
+use Rattle.signs.proofs.zero_sign.Needs.{in-rest·by·else-rest-lt1·else-rest-lt48·else-rest-lt58}
 
 pub returns-in-48-to-57 : need.returns-in-48-to-57
 returns-in-48-to-57 c =
@@ -18,8 +19,8 @@ pub returns-in-rest : need.returns-in-rest
 returns-in-rest c =
     let bs = c .args .rest .now in
     let none : 1 ≤ length bs → 48 ≤ getD bs 0 0 → getD bs 0 0 ≤ 57 → ⊥ = λ l low high. elim (c .in-rest .came) [
-        in-rest·by·then-rest-lt1 w ↦ omega (arith, ltb-true)
+      | in-rest·by·then-rest-lt1 w ↦ omega (arith, ltb-true)
       | in-rest·by·else-rest-lt1·then-rest-lt48 w ↦ omega arith
       | in-rest·by·else-rest-lt1·else-rest-lt48·else-rest-lt58 w ↦ omega arith
-      ] in
+    ] in
     takes (Number 0) 0 (zero-good bs none) refl refl
