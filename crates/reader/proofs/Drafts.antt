@@ -2,7 +2,7 @@
 use mathlib.Core.Path.{_≡_, refl, sym, ap, subst, _∙_}
 use mathlib.Core.List.{List, [], _∷_, _++_}
 use mathlib.Core.Bool.{Bool, true, false, cond}
-use Prim.Native.Nat.{ℕ, _+_, _-_, _≤_, _<_, min}
+use Prim.Native.Nat.{ℕ, _+_, _-_, _≤_, _<_}
 use native.Mathlib.Omega.{arith}
 use borrow.Author.Tests.{ltb-true, ltb-false}
 use lib.Dec.{ltb}
@@ -50,8 +50,8 @@ drawn-push {d} {e} m l ls h p n same =
     all s f =
         let k : d .count ≡ length ls = omega (arith, h .counted) in
         let room : length ls < length (d .lines) = omega (arith, d .full) in
-        ap (λ i. take i (e .lines)) (length-push ls l) ∙ ap (take (length ls + 1))
-        (p .kept ∙ ap (λ i. set (d .lines) i m) k)
+        ap (λ i. take i (e .lines)) (length-push ls l)
+        ∙ ap (take (length ls + 1)) (p .kept ∙ ap (λ i. set (d .lines) i m) k)
         ∙ take-more-set (d .lines) (length ls) m room
         ∙ ap (λ xs. xs ++ (m ∷ [])) (h .kept (small-front ls l s) (omega arith))
         ∙ ap (λ x. ls ++ (x ∷ [])) (same f (small-last ls l s))

@@ -1,7 +1,6 @@
 -- The parts that the readers take are those of the grammar.
 use mathlib.Core.Path.{_≡_, refl, sym, ap, subst, _∙_}
 use mathlib.Core.List.{List, [], _∷_, _++_}
-use Prim.Native.Nat.{ℕ}
 use Rattle.std.proofs.shelf.Lists.{append-assoc, append-nil}
 use Rattle.tctl.specs.Rules as tree
 use Rattle.tctl.specs.Rules.{Rule}
@@ -11,8 +10,7 @@ use Rattle.rules.specs.declared.line.Quantifier.{Quantifier}
 use Rattle.rules.specs.declared.line.Quantifier.the-variants as quantifier
 use Rattle.rules.specs.Lines.{untilRule}
 use Rattle.signs.specs.declared.Sign.{Sign}
-use Rattle.signs.specs.declared.Sign.the-variants.{Open, Close, OpenSquare, CloseSquare, Bang, Amp, Bar, Each, Until}
-use Rattle.signs.specs.declared.Sign.the-variants.{UntilAtMost, UntilAtLeast, Letter, Number}
+use Rattle.signs.specs.declared.Sign.the-variants.{Open, Close, OpenSquare, CloseSquare, Bang, Amp, Bar, Each}
 use Rattle.reader.specs.Grammar.{IsBound, IsRule, IsTerm, IsItem, untilSigns}
 use Rattle.reader.specs.Grammar as grammar
 use Rattle.reader.specs.Parts.{Limit, plain, at-most, at-least, Formula, Terms, Term, Items, Item, terms, no-term, bar}

@@ -1,7 +1,5 @@
 -- A part whose signs name letters from a to p is a tree with such letters.
-use mathlib.Core.Path.{_≡_, refl, sym, ap, subst, _∙_}
-use mathlib.Core.List.{List, [], _∷_}
-use Prim.Native.Nat.{ℕ}
+use mathlib.Core.List.{List, _∷_}
 use Rattle.std.specs.shelf.Lists.{All}
 use Rattle.tctl.specs.Rules.{Rule}
 use Rattle.rules.specs.declared.line.Bound.{Bound}

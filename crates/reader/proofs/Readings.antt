@@ -1,6 +1,6 @@
 -- A reading of a text, in the grammar and as the readers take it.
-use mathlib.Core.Path.{_≡_, refl, sym, ap, subst, _∙_}
-use mathlib.Core.List.{List, [], _∷_, _++_}
+use mathlib.Core.Path.{_≡_, sym, ap, _∙_}
+use mathlib.Core.List.{List, []}
 use Prim.Native.Nat.{ℕ}
 use native.Mathlib.Omega.{arith}
 use Rattle.std.specs.shelf.Lists.{All}
@@ -9,15 +9,14 @@ use Rattle.std.proofs.shelf.Lists.{append-nil}
 use Rattle.tctl.specs.Rules.{Rule, Bound}
 use Rattle.rules.specs.declared.line.Quantifier.{Quantifier}
 use Rattle.signs.specs.declared.Sign.{Sign}
-use Rattle.signs.specs.declared.Sign.the-variants.{Open, Close, OpenSquare, CloseSquare, Bang, Amp, Bar, Each, Until}
-use Rattle.signs.specs.declared.Sign.the-variants.{UntilAtMost, UntilAtLeast, Letter, Number, Bad}
+use Rattle.signs.specs.declared.Sign.the-variants.{Close, OpenSquare, CloseSquare, Each}
 use Rattle.signs.specs.Signs.{signs}
 use Rattle.signs.specs.Writing.{Good}
 use Rattle.signs.proofs.Writing.{signs-right}
 use Rattle.reader.specs.Grammar.{IsBound, IsRule, IsTerm, IsItem, untilSigns, Reading}
 use Rattle.reader.specs.Grammar as grammar
 use Rattle.reader.specs.Parts.{Formula, spell-formula, tree-formula}
-use Rattle.reader.proofs.Grammar.{Parted, rule-parted, formula-is}
+use Rattle.reader.proofs.Grammar.{rule-parted, formula-is}
 use Rattle.reader.proofs.Unique.{formula-same}
 
 good-bound : {ss : List Sign} {b : Bound} → IsBound ss b → All Good ss
@@ -51,23 +50,17 @@ mutual
   good-item grammar.one-sign = (λ e. let z : _≡_ {A = ℕ} 0 1 = cc in omega arith, tt)
   good-item grammar.letter-sign = (λ e. let z : _≡_ {A = ℕ} 0 1 = cc in omega arith, tt)
   good-item (grammar.bang i) = (λ e. let z : _≡_ {A = ℕ} 0 1 = cc in omega arith, good-item i)
-  good-item (grammar.round r) = (
-    λ e. let z : _≡_ {A = ℕ} 0 1 = cc in omega arith,
-    all-append Good _ _ (good-rule r)
-        (λ e. let z : _≡_ {A = ℕ} 0 1 = cc in omega arith, tt),
-  )
+  good-item (grammar.round r) =
+      let close : Good Close = λ e. let z : _≡_ {A = ℕ} 0 1 = cc in omega arith in
+      (λ e. let z : _≡_ {A = ℕ} 0 1 = cc in omega arith, all-append Good _ _ (good-rule r) (close, tt))
   good-item (grammar.some l b r) = good-until _ _ _ _ (good-rule l) (good-bound b) (good-rule r)
   good-item (grammar.each l b r) = good-until _ _ _ _ (good-rule l) (good-bound b) (good-rule r)
 
 pub reading-from : (text : List ℕ) (p : Formula) → signs text ≡ spell-formula p [] → Reading text (tree-formula p)
 reading-from text p e =
     let r = formula-is p in
-    record {
-      signs = spell-formula p [];
-      written = signs-right text (spell-formula p []) .1
-          (e, good-rule r);
-      grammar = r;
-    }
+    let w = signs-right text (spell-formula p []) .1 (e, good-rule r) in
+    record { signs = spell-formula p []; written = w; grammar = r }
 
 pub reading-to : {text : List ℕ} {f : Rule} → Reading text f
     → (p : Formula) × (signs text ≡ spell-formula p []) × (f ≡ tree-formula p)

@@ -1,11 +1,10 @@
 -- What one step of a reader keeps.
 use mathlib.Core.Path.{_≡_, refl, sym, ap, subst, _∙_}
-use mathlib.Core.List.{List, [], _∷_, _++_}
-use mathlib.Core.Bool.{Bool, true, false, cond}
-use Prim.Native.Nat.{ℕ, _+_, _-_, _≤_, _<_, min}
+use mathlib.Core.List.{List, [], _∷_}
+use Prim.Native.Nat.{ℕ, _-_, _≤_, _<_}
 use native.Mathlib.Omega.{arith}
-use lib.ListN.{length, length-append}
-use denote.Ref.{RefT, now}
+use lib.ListN.{length}
+use denote.Ref.{RefT}
 use Rattle.std.specs.declared.option.Option.{Option}
 use Rattle.std.specs.declared.option.Option.the-variants as option
 use Rattle.tctl.specs.Rules as tree
@@ -16,12 +15,12 @@ use Rattle.rules.specs.declared.line.Line.{Line}
 use Rattle.rules.specs.declared.line.Line.the-variants as line
 use Rattle.rules.specs.declared.line.Quantifier.{Quantifier}
 use Rattle.rules.specs.declared.line.Quantifier.the-variants as quantifier
-use Rattle.rules.specs.Lines.{untilRule, largestNumber}
-use Rattle.rules.specs.Postorder.{put, last, afterOne, afterTwo, lineNumber}
+use Rattle.rules.specs.Lines.{untilRule}
+use Rattle.rules.specs.Postorder.{put, afterTwo}
 use Rattle.rules.proofs.Postorder.{put-longer}
 use Rattle.signs.specs.declared.Sign.{Sign}
 use Rattle.signs.specs.declared.Sign.the-variants.{Open, Close, OpenSquare, CloseSquare, Bang, Amp, Bar, Each, Until}
-use Rattle.signs.specs.declared.Sign.the-variants.{UntilAtMost, UntilAtLeast, Letter, Number, Bad}
+use Rattle.signs.specs.declared.Sign.the-variants.{UntilAtMost, UntilAtLeast, Letter, Number}
 use Rattle.signs.specs.Signs.{signs, told, cap}
 use Rattle.signs.specs.First.{Begins, Told, After}
 use Rattle.signs.proofs.Told.{exactly}
@@ -32,7 +31,6 @@ use Rattle.reader.specs.Parts.{no-term, bar, items, no-item, amp, one, letter,
 use Rattle.reader.specs.Parts.{spell-formula, spell-terms, spell-term, spell-items, spell-item, spell-body}
 use Rattle.reader.specs.Parts.{tree-formula, tree-terms, tree-term, tree-items, tree-item, tree-body}
 use Rattle.reader.specs.Reads.{ReadsItem, ReadsBody, Without, Anything, No-amp, No-joint, Took, Lacks, Took-limit}
-use Rattle.reader.specs.Reads.{told-bound}
 use Rattle.reader.proofs.Drafts.{push-one, push-two, push-until, push-new}
 use Rattle.reader.proofs.Unique.{barred, limit-free, limit-same, terms-free, close-free, square-free, formula-same}
 use Rattle.reader.proofs.Unique.{term-same, item-same}

@@ -1,11 +1,10 @@
 -- A text has at most one reading.
-use mathlib.Core.Path.{_≡_, refl, sym, ap, subst, _∙_}
-use mathlib.Core.List.{List, [], _∷_}
+use mathlib.Core.Path.{_≡_, refl, sym, subst}
+use mathlib.Core.List.{List, _∷_}
 use Prim.Native.Nat.{ℕ}
 use native.Mathlib.Omega.{arith}
 use Rattle.signs.specs.declared.Sign.{Sign}
-use Rattle.signs.specs.declared.Sign.the-variants.{Open, Close, OpenSquare, CloseSquare, Bang, Amp, Bar, Each, Until}
-use Rattle.signs.specs.declared.Sign.the-variants.{UntilAtMost, UntilAtLeast, Letter, Number, Bad}
+use Rattle.signs.specs.declared.Sign.the-variants.{Close, CloseSquare, Amp, Bar}
 use Rattle.reader.specs.Parts.{Limit, plain, at-most, at-least, Formula, Terms, Term, Items, Item, terms, no-term, bar}
 use Rattle.reader.specs.Parts.{items, no-item, amp, one, letter, not, round, until, spell-limit, spell-formula}
 use Rattle.reader.specs.Parts.{spell-terms, spell-term, spell-items, spell-item}

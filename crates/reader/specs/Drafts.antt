@@ -1,8 +1,8 @@
 -- What a draft stands for: lines without limit, of which it keeps the first 32.
 use mathlib.Core.Path.{_≡_}
-use mathlib.Core.List.{List, [], _∷_}
+use mathlib.Core.List.{List}
 use mathlib.Core.Bool.{true, cond}
-use Prim.Native.Nat.{ℕ, _+_, _≤_, min}
+use Prim.Native.Nat.{_+_, _≤_, min}
 use lib.Dec.{ltb}
 use lib.ListN.{length, set, take}
 use Rattle.std.specs.Orderings.{When}

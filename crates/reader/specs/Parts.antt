@@ -1,5 +1,5 @@
 -- The parts of a text as the readers take them, how each is written in signs, and the tree that it is.
-use mathlib.Core.List.{List, [], _∷_}
+use mathlib.Core.List.{List, _∷_}
 use Prim.Native.Nat.{ℕ}
 use Rattle.tctl.specs.Rules as tree
 use Rattle.tctl.specs.Rules.{Rule}

@@ -1,7 +1,7 @@
 -- The lines of a rule stand for its parts.
-use mathlib.Core.Path.{_≡_, refl, sym, ap, subst, _∙_}
+use mathlib.Core.Path.{_≡_, refl, sym, ap, _∙_}
 use mathlib.Core.List.{List, [], _∷_, _++_}
-use Prim.Native.Nat.{ℕ, _+_, _-_, _≤_, _<_}
+use Prim.Native.Nat.{ℕ, _+_, _<_}
 use native.Mathlib.Omega.{arith}
 use lib.ListN.{length, getD}
 use Rattle.std.proofs.shelf.Lists.{append-assoc, length-push, getD-append-left, getD-push}
@@ -11,7 +11,7 @@ use Rattle.rules.specs.declared.line.Quantifier.the-variants.{Some, All}
 use Rattle.rules.specs.declared.line.Line.{Line}
 use Rattle.rules.specs.declared.line.Line.the-variants.{One, Letter, Not, And, Or, Until}
 use Rattle.rules.specs.Lines.{untilRule, ruleFrom, rulesOf, ruleAt}
-use Rattle.rules.specs.Postorder.{boundLine, last, afterOne, afterTwo, put, linesOf, partsOf, Stand, Lines-stand}
+use Rattle.rules.specs.Postorder.{boundLine, last, afterOne, afterTwo, put, linesOf, partsOf, Lines-stand}
 use Rattle.rules.specs.Postorder.{Lines-tell}
 use Rattle.rules.proofs.Postorder.{put-longer}
 
@@ -81,10 +81,9 @@ goes-two make grow f g ls h k from =
     let left : getD rs i one ≡ f =
     ap (λ xs. getD xs i one) k ∙ getD-append-left (rulesOf [] ms) (partsOf g) one i below ∙ goes-last f ls h in
     let right : getD rs j one ≡ g = goes-last g ms k in
-    rules-push [] ns (make i j) ∙ ap (λ x. rs ++ (x ∷ []))
-    (from rs i j ∙ ap (λ x. grow x (getD rs j one)) left ∙ ap (grow f) right)
-    ∙ ap (λ xs. xs ++ (grow f g ∷ [])) (k ∙ ap (λ xs. xs ++ partsOf g) h ∙ append-assoc (rulesOf [] ls) (partsOf f)
-    (partsOf g))
+    let both-parts = from rs i j ∙ ap (λ x. grow x (getD rs j one)) left ∙ ap (grow f) right in
+    let before = k ∙ ap (λ xs. xs ++ partsOf g) h ∙ append-assoc (rulesOf [] ls) (partsOf f) (partsOf g) in
+    rules-push [] ns (make i j) ∙ ap (λ x. rs ++ (x ∷ [])) both-parts ∙ ap (λ xs. xs ++ (grow f g ∷ [])) before
     ∙ append-assoc (rulesOf [] ls) (partsOf f ++ partsOf g) (grow f g ∷ [])
 
 put-goes : (f : Rule) (ls : List Line) → Goes f ls

@@ -1,19 +1,18 @@
 -- The lines of a rule are well formed where its letters are those from a to p and its numbers small.
-use mathlib.Core.Path.{_≡_, refl, sym, ap, subst, _∙_}
+use mathlib.Core.Path.{refl, sym, subst}
 use mathlib.Core.List.{List, [], _∷_, _++_}
-use mathlib.Core.Logic.{_⊎_, inl, inr}
-use Prim.Native.Nat.{ℕ, _+_, _-_, _≤_, _<_}
+use mathlib.Core.Logic.{inl, inr}
+use Prim.Native.Nat.{ℕ, _≤_, _<_}
 use native.Mathlib.Nat.{eq-or-lt-of-le}
 use native.Mathlib.Omega.{arith}
-use lib.ListN.{length, getD, length-append}
+use lib.ListN.{length, getD}
 use Rattle.std.proofs.shelf.Lists.{getD-append-left, getD-push, length-push}
-use Rattle.tctl.specs.Rules.{Rule, one, letter, not, both, either, some-run, each-run, most, least}
-use Rattle.tctl.specs.Rules as tree
+use Rattle.tctl.specs.Rules.{Rule, one, letter, not, both, either, some-run, each-run}
 use Rattle.rules.specs.declared.line.Quantifier.the-variants.{Some, All}
 use Rattle.rules.specs.declared.line.Line.{Line}
 use Rattle.rules.specs.declared.line.Line.the-variants.{One, Letter, Not, And, Or, Until}
 use Rattle.rules.specs.Lines.{Formed, Well-formed, largestNumber}
-use Rattle.rules.specs.Postorder.{boundLine, last, afterOne, afterTwo, put, linesOf, lineNumber, Small, Large}
+use Rattle.rules.specs.Postorder.{boundLine, last, afterTwo, put, lineNumber, Small, Large}
 
 -- every letter of the rule is one of sixteen
 abbrev pub Lettered : Rule → Type 0

@@ -2,7 +2,7 @@
 use mathlib.Core.Path.{_≡_, refl}
 use mathlib.Core.List.{List, [], _∷_}
 use mathlib.Core.Bool.{Bool, true, false, cond}
-use Prim.Native.Nat.{ℕ, zero, suc, _-_, _≤_, _<_}
+use Prim.Native.Nat.{ℕ, zero, suc, _-_, _<_}
 use native.Mathlib.Omega.{arith}
 use borrow.Author.Tests.{leb-true}
 use lib.Dec.{eqb, leb}
@@ -10,7 +10,7 @@ use Rattle.std.specs.shelf.Lists.{All}
 use Rattle.signs.specs.declared.Sign.{Sign}
 use Rattle.signs.specs.declared.Sign.the-variants.{Open, Close, OpenSquare, CloseSquare, Bang, Amp, Bar, Each, Until}
 use Rattle.signs.specs.declared.Sign.the-variants.{UntilAtMost, UntilAtLeast, Letter, Number, Bad}
-use Rattle.signs.specs.Signs.{between, digit, run, pair, plain, sign, more, signsAfter, signs}
+use Rattle.signs.specs.Signs.{digit, run, pair, plain, sign, more, signsAfter, signs}
 
 abbrev pub Fair : Sign → Type 0
 Fair Open = Unit {0}

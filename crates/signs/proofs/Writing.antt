@@ -2,21 +2,19 @@
 use mathlib.Core.Path.{_≡_, refl, sym, ap, subst, _∙_}
 use mathlib.Core.List.{List, [], _∷_, _++_}
 use mathlib.Core.Bool.{Bool, true, false, cond}
-use mathlib.Core.Logic.{_⊎_, inl, inr}
-use Prim.Native.Nat.{ℕ, zero, suc, _+_, _-_, _*_, _≤_, _<_}
+use Prim.Native.Nat.{ℕ, suc, _+_, _-_, _*_, _<_}
 use native.Mathlib.Omega.{arith}
-use borrow.Author.Tests.{le-leb, ne-eqb, eq-eqb, leb-true, eqb-true, eqb-false, both-ways}
+use borrow.Author.Tests.{eq-eqb, leb-true, eqb-true, eqb-false, both-ways}
 use lib.Dec.{eqb, leb}
-use lib.Chars.{codes}
-use lib.ListN.{length, getD, drop, take}
+use lib.ListN.{length, drop, take}
 use Rattle.std.proofs.shelf.Lists.{take-append-drop}
 use Rattle.std.specs.shelf.Lists.{All}
 use Rattle.rules.specs.declared.line.Quantifier.the-variants as quantifier
 use Rattle.signs.specs.declared.Sign.{Sign}
 use Rattle.signs.specs.declared.Sign.the-variants.{Open, Close, OpenSquare, CloseSquare, Bang, Amp, Bar, Each, Until}
 use Rattle.signs.specs.declared.Sign.the-variants.{UntilAtMost, UntilAtLeast, Letter, Number, Bad}
-use Rattle.signs.specs.Signs.{between, digit, run, value, pair, plain, sign, more, signsAfter, signs}
-use Rattle.signs.specs.Writing.{Digit, worth, Numeral, Spells, Starts, Apart, Space, SignThen, Writes, Good}
+use Rattle.signs.specs.Signs.{digit, run, value, pair, plain, sign, more, signsAfter, signs}
+use Rattle.signs.specs.Writing.{Digit, worth, Numeral, Spells, Starts, Apart, Space, Writes, Good}
 use Rattle.signs.specs.Writing.{Signs-right}
 use Rattle.signs.proofs.Lexing.{digit-yes, digit-no, first-byte, letter-begins, number-begins}
 use Rattle.signs.proofs.Letters.{by-cond}
@@ -67,15 +65,15 @@ number-signs (d ∷ ds) bs n h a = go (eqb d 48) refl
     go : (t : Bool) → eqb d 48 ≡ t → signs ((d ∷ ds) ++ bs) ≡ Number n ∷ signs bs
     go true t =
         let e = h .lead (eqb-true d 48 t) in
-        ap (λ xs. signs (xs ++ bs)) e ∙ zero-signs bs (none-in-front bs a .0) ∙ ap (λ m. Number m ∷ signs bs)
-        (sym (ap (worth 0) e) ∙ h .value)
+        ap (λ xs. signs (xs ++ bs)) e ∙ zero-signs bs (none-in-front bs a .0)
+        ∙ ap (λ m. Number m ∷ signs bs) (sym (ap (worth 0) e) ∙ h .value)
     go false t =
         let none = none-in-front bs a in
         let k = number-begins d (ds ++ bs) (omega (arith, eqb-false d 48 t)) (h .digits .0 .1) in
         let v = digits-value 0 (d ∷ ds) bs (h .digits) (none .1) ∙ h .value in
         let r = k .1 ∙ digits-run ds bs (h .digits .1) (none .0) in
-        first-byte d (ds ++ bs) (λ e. omega arith) ∙ ap (λ s. s ∷ signs (drop (more d (ds ++ bs)) (ds ++ bs)))
-        (k .0 ∙ ap Number v)
+        first-byte d (ds ++ bs) (λ e. omega arith)
+        ∙ ap (λ s. s ∷ signs (drop (more d (ds ++ bs)) (ds ++ bs))) (k .0 ∙ ap Number v)
         ∙ ap (λ i. Number n ∷ signs (drop i (ds ++ bs))) r ∙ ap (λ xs. Number n ∷ signs xs) (drop-front ds bs)
 
 pair-apart : (x y : ℕ) (bs : List ℕ) → (Starts bs (x ∷ y ∷ []) → ⊥) → pair x y bs ≡ false
@@ -122,8 +120,8 @@ one-sign bytes bs Bad e a = absurd e
 written-signs : (text : List ℕ) (ss : List Sign) → Writes text ss → signs text ≡ ss
 written-signs text [] a = only-spaces text a
 written-signs text (s ∷ ss) w =
-    ap signs (w .splits) ∙ spaces-skipped (w .spaces) (w .bytes ++ w .rest) (w .blank) ∙ one-sign (w .bytes) (w .rest) s
-    (w .spelled) (w .apart)
+    ap signs (w .splits) ∙ spaces-skipped (w .spaces) (w .bytes ++ w .rest) (w .blank)
+    ∙ one-sign (w .bytes) (w .rest) s (w .spelled) (w .apart)
     ∙ ap (λ us. s ∷ us) (written-signs (w .rest) ss (w .goes-on))
 
 bad-unwritten : (bytes : List ℕ) (s : Sign) → Spells bytes s → Good s
@@ -178,8 +176,9 @@ run-apart : (bs : List ℕ) (c : ℕ) → Digit c → Starts (drop (run bs) bs) 
 run-apart [] c d = λ st. let e = st .1 in let z : _≡_ {A = ℕ} 0 1 = cc in omega arith
 run-apart (b ∷ bs) c d =
     by-cond (λ m. Starts (drop m (b ∷ bs)) (c ∷ []) → ⊥) (digit b) _ _ (λ _. run-apart bs c d)
-    (λ no-digit st. let same : b ≡ c = cc (st .1) in both-ways (digit b) no-digit
-    (digit-yes b (omega (arith, d .0)) (omega (arith, d .1))))
+    (λ no-digit st.
+    let same : b ≡ c = cc (st .1) in
+    both-ways (digit b) no-digit (digit-yes b (omega (arith, d .0)) (omega (arith, d .1))))
 
 pair-take : (x y : ℕ) (bs : List ℕ) → pair x y bs ≡ true → take 2 bs ≡ x ∷ y ∷ []
 pair-take x y [] e = absurd (both-ways false refl e)

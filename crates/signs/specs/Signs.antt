@@ -1,8 +1,7 @@
 -- The signs of a text, as a function that computes.
-use mathlib.Core.Path.{_≡_}
-use mathlib.Core.Bool.{Bool, true, false, cond}
+use mathlib.Core.Bool.{Bool, false, cond}
 use mathlib.Core.List.{List, [], _∷_}
-use Prim.Native.Nat.{ℕ, zero, suc, _+_, _-_, _*_, _<_, min}
+use Prim.Native.Nat.{ℕ, zero, suc, _+_, _-_, _*_, min}
 use lib.Dec.{eqb, leb}
 use Rattle.rules.specs.declared.line.Quantifier.the-variants.{Some, All}
 use Rattle.signs.specs.declared.Sign.{Sign}

@@ -1,8 +1,8 @@
 use mathlib.Core.Path.{_≡_, _∙_, ap, sym}
-use Prim.Native.Nat.{_≤_, _<_, _*_, _+_, _-_, min}
+use Prim.Native.Nat.{_≤_}
 use native.Mathlib.Omega.{arith}
 use borrow.Author.Tests.{ltb-false, ltb-true}
-use lib.ListN.{length, getD, drop, length-drop}
+use lib.ListN.{length, getD, drop}
 use Rattle.std.proofs.shelf.Lists.{take-rest}
 use Rattle.signs.specs.Signs.{value, run, cap}
 use Rattle.signs.proofs.Lexing.{value-more, run-more, no-digit}

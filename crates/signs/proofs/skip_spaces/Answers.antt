@@ -1,8 +1,8 @@
 use mathlib.Core.Path.{_≡_, _∙_, ap}
 use Prim.Native.Nat.{_≤_}
 use native.Mathlib.Omega.{arith}
-use borrow.Author.Tests.{ltb-false, ltb-true}
-use lib.ListN.{length, getD, drop, length-drop}
+use borrow.Author.Tests.{ltb-false}
+use lib.ListN.{length, getD, length-drop}
 use Rattle.std.proofs.shelf.Lists.{take-rest}
 use Rattle.signs.proofs.Lexing.{space-byte}
 use Rattle.signs.proofs.skip_spaces.Needs as need

@@ -7,7 +7,7 @@ use Rattle.signs.proofs.Told.{exactly, number-begins}
 use Rattle.reader.proofs.Steps.{term-lacks, term-starts, term-goes-on, term-lacks-on, term-ends, rule-lacks}
 use Rattle.reader.proofs.Steps.{rule-starts, rule-goes-on, rule-lacks-on, rule-ends, body-lacks-open, body-lacks-left}
 use Rattle.reader.proofs.Steps.{body-lacks-limit, body-lacks-right, body-lacks-close, body-ends, item-lacks-none}
-use Rattle.reader.proofs.Steps.{item-lacks-number, item-lacks-not, item-lacks-round, item-lacks-close, item-lacks-body}
+use Rattle.reader.proofs.Steps.{item-lacks-number, item-lacks-not, item-lacks-round}
 use Rattle.reader.proofs.Steps.{item-lacks-other, item-one, item-letter, item-not, item-by-close, item-by-body}
 use Rattle.reader.proofs.parts.+read_item+read_rule+read_term+read_until.Needs as need
 
@@ -22,13 +22,13 @@ read-item-returns-then-n-ne1 t c =
 
 pub read-item-returns-in-Break-rest : need.read-item-returns-in-Break-rest
 read-item-returns-in-Break-rest t c =
-    rw (c .from-residual-in-Break-rest .ensures) (item-lacks-not
-    (exactly (c .in-Bang .is) tt (c .in-Continue-first .ensures tt)) (c .in-Break-rest .ensures tt))
+    let bang = exactly (c .in-Bang .is) tt (c .in-Continue-first .ensures tt) in
+    rw (c .from-residual-in-Break-rest .ensures) (item-lacks-not bang (c .in-Break-rest .ensures tt))
 
 pub read-item-returns-in-Break-rest-2 : need.read-item-returns-in-Break-rest-2
 read-item-returns-in-Break-rest-2 t c =
-    rw (c .from-residual-in-Break-rest-2 .ensures) (item-lacks-round
-    (exactly (c .in-Open .is) tt (c .in-Continue-first .ensures tt)) (c .in-Break-rest-2 .ensures tt))
+    let bracket = exactly (c .in-Open .is) tt (c .in-Continue-first .ensures tt) in
+    rw (c .from-residual-in-Break-rest-2 .ensures) (item-lacks-round bracket (c .in-Break-rest-2 .ensures tt))
 
 pub read-item-returns-else-n-ne1 : need.read-item-returns-else-n-ne1
 read-item-returns-else-n-ne1 t c =
@@ -76,8 +76,7 @@ read-rule-returns-in-Break-rest-2 t c =
 pub read-rule-loop-after-again : need.read-rule-loop-after-again
 read-rule-loop-after-again t c =
     rule-goes-on _ _ (c .loop-after .inv) (exactly refl tt (c .in-Some .ensures tt)) (c .in-Continue-rest-2 .ensures tt)
-    (c .push .ensures) (c .last-left .ensures)
-    (c .last-right .ensures)
+    (c .push .ensures) (c .last-left .ensures) (c .last-right .ensures)
 
 pub read-rule-returns : need.read-rule-returns
 read-rule-returns t c =
@@ -98,8 +97,7 @@ read-term-returns-in-Break-rest-2 t c =
 pub read-term-loop-after-again : need.read-term-loop-after-again
 read-term-loop-after-again t c =
     term-goes-on _ _ (c .loop-after .inv) (exactly refl tt (c .in-Some .ensures tt)) (c .in-Continue-rest-2 .ensures tt)
-    (c .push .ensures) (c .last-left .ensures)
-    (c .last-right .ensures)
+    (c .push .ensures) (c .last-left .ensures) (c .last-right .ensures)
 
 pub read-term-returns : need.read-term-returns
 read-term-returns t c =
@@ -111,13 +109,14 @@ read-until-returns-in-Break-rest t c =
 
 pub read-until-returns-in-Break-rest-2 : need.read-until-returns-in-Break-rest-2
 read-until-returns-in-Break-rest-2 t c =
-    rw (c .from-residual-in-Break-rest-2 .ensures) (body-lacks-left (exactly refl tt (c .in-Continue-rest .ensures tt))
-    (c .in-Break-rest-2 .ensures tt))
+    rw (c .from-residual-in-Break-rest-2 .ensures)
+    (body-lacks-left (exactly refl tt (c .in-Continue-rest .ensures tt)) (c .in-Break-rest-2 .ensures tt))
 
 pub read-until-returns-in-Break-bound : need.read-until-returns-in-Break-bound
 read-until-returns-in-Break-bound t c =
-    rw (c .from-residual-in-Break-bound .ensures) (body-lacks-limit (exactly refl tt (c .in-Continue-rest .ensures tt))
-    (c .in-Continue-rest-2 .ensures tt) (c .in-Break-bound .ensures tt))
+    rw (c .from-residual-in-Break-bound .ensures)
+    (body-lacks-limit (exactly refl tt (c .in-Continue-rest .ensures tt)) (c .in-Continue-rest-2 .ensures tt)
+    (c .in-Break-bound .ensures tt))
 
 pub read-until-returns-in-Break-rest-3 : need.read-until-returns-in-Break-rest-3
 read-until-returns-in-Break-rest-3 t c =

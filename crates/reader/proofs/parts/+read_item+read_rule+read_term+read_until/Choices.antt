@@ -1,4 +1,4 @@
-use Prim.Native.Nat.{ℕ, _+_, _*_}
+use Prim.Native.Nat.{_+_, _*_}
 use lib.ListN.{length}
 use Rattle.reader.proofs.Steps.{GrewItems, GrewTerms}
 use Rattle.reader.proofs.parts.+read_item+read_rule+read_term+read_until.Given as given
