@@ -19,7 +19,7 @@ use Rattle.rules.specs.Postorder.{last, afterOne, afterTwo, lineNumber, Small, 
 use Rattle.rules.proofs.Postorder.{small-front, small-last, small-push, large-push, large-last}
 use Rattle.signs.specs.Signs.{cap}
 use Rattle.reader.specs.declared.draft.Draft.{Draft}
-use Rattle.reader.specs.Drafts.{Drawn, Pushed}
+use Rattle.reader.specs.Drafts.{Drawn, Pushed, PushedUntil}
 use Rattle.reader.specs.Reads.{told-bound}
 
 when-map : {P Q X Y : Type 0} (b : Bool) → (P → X) → (Q → Y) → When b P Q → When b X Y
@@ -51,7 +51,7 @@ drawn-push {d} {e} m l ls h p n same =
         let k : d .count ≡ length ls = omega (arith, h .counted) in
         let room : length ls < length (d .lines) = omega (arith, d .full) in
         ap (λ i. take i (e .lines)) (length-push ls l)
-        ∙ ap (take (length ls + 1)) (p .kept ∙ ap (λ i. set (d .lines) i m) k)
+        ∙ ap (take (length ls + 1)) (p .kept (omega arith) ∙ ap (λ i. set (d .lines) i m) k)
         ∙ take-more-set (d .lines) (length ls) m room
         ∙ ap (λ xs. xs ++ (m ∷ [])) (h .kept (small-front ls l s) (omega arith))
         ∙ ap (λ x. ls ++ (x ∷ [])) (same f (small-last ls l s))
@@ -84,9 +84,9 @@ told-small : (b : Bound) → boundNumber b ≤ largestNumber → told-bound b �
 told-small (AtMost n) s = ap AtMost (omega arith)
 told-small (AtLeast n) s = ap AtLeast (omega arith)
 
-pub push-until : {d1 d2 d3 : Draft} (q : Quantifier) (c b : Bound) (i j : ℕ) (ms ns : List Line) → Drawn d1 ms
-    → Drawn d2 ns → length ms ≤ length ns → Pushed d2 (Until q i c j) d3 → c ≡ told-bound b → i ≡ d1 .count - 1
-    → j ≡ d2 .count - 1 → Drawn d3 (afterTwo (λ a k. Until q a b k) ms ns)
-push-until {d3 = d3} q c b i j ms ns left right l p t x y =
-    push-two (λ a k. Until q a c k) (λ a k. Until q a b k) i j ms ns left right l p x y
+pub push-until : {d1 d2 d3 : Draft} (q : Quantifier) (c b : Bound) (i : ℕ) (ms ns : List Line) → Drawn d1 ms
+    → Drawn d2 ns → length ms ≤ length ns → PushedUntil d2 q i c d3 → c ≡ told-bound b → i ≡ d1 .count - 1
+    → Drawn d3 (afterTwo (λ a k. Until q a b k) ms ns)
+push-until q c b i ms ns left right l p t x =
+    push-two (λ a k. Until q a c k) (λ a k. Until q a b k) i _ ms ns left right l p x refl
     (λ a k. ap boundNumber t ∙ told-number b) (λ a k s. ap (λ z. Until q a z k) (t ∙ told-small b s))

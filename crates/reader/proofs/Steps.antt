@@ -25,7 +25,7 @@ use Rattle.signs.specs.Signs.{signs, told, cap}
 use Rattle.signs.specs.First.{Begins, Told, After}
 use Rattle.signs.proofs.Told.{exactly}
 use Rattle.reader.specs.declared.draft.Draft.{Draft}
-use Rattle.reader.specs.Drafts.{Drawn, Pushed}
+use Rattle.reader.specs.Drafts.{Drawn, Pushed, PushedUntil}
 use Rattle.reader.specs.Parts.{Limit, plain, at-most, at-least, Formula, Terms, Term, Items, Item, Body, body, terms}
 use Rattle.reader.specs.Parts.{no-term, bar, items, no-item, amp, one, letter, not, round, until, spell-limit, bound-of}
 use Rattle.reader.specs.Parts.{spell-formula, spell-terms, spell-term, spell-items, spell-item, spell-body}
@@ -155,10 +155,10 @@ pub term-starts : {text rest : List ℕ} {d e : Draft} → TookItem text rest d 
 unfolding spell-formula tree-formula
 term-starts h = record { parts = no-item; splits = refl; adds = λ f ls x. x; stops = tt; shorter = omega arith }
 
-pub term-goes-on : {r0 rest next after : List ℕ} {d0 d1 d2 d3 : Draft} (i j : ℕ) → GrewItems r0 rest d0 d1
-    → Begins rest Amp after → TookItem after next d1 d2 → Pushed d2 (line.And i j) d3 → i ≡ d1 .count - 1
-    → j ≡ d2 .count - 1 → GrewItems r0 next d0 d3
-term-goes-on {next = next} {d3 = d3} i j g s h p x y =
+pub term-goes-on : {r0 rest next after : List ℕ} {d0 d1 d2 d3 : Draft} (i : ℕ) → GrewItems r0 rest d0 d1
+    → Begins rest Amp after → TookItem after next d1 d2 → Pushed d2 (line.And i (d2 .count - 1)) d3 → i ≡ d1 .count - 1
+    → GrewItems r0 next d0 d3
+term-goes-on {next = next} {d3 = d3} i g s h p x =
     record {
       parts = snoc-item (g .parts) (h .part);
       splits =
@@ -168,7 +168,7 @@ term-goes-on {next = next} {d3 = d3} i j g s h p x y =
           λ f ls w.
           let u = g .adds f ls w in
           subst (λ z. Drawn d3 (put z ls)) (sym (tree-snoc-item (g .parts) (h .part) f))
-          (push-two line.And line.And i j _ _ u (h .adds _ u) (not-shorter (tree-item (h .part)) _) p x y
+          (push-two line.And line.And i _ _ _ u (h .adds _ u) (not-shorter (tree-item (h .part)) _) p x refl
           (λ a b. refl) (λ a b z. refl));
       stops = tt;
       shorter = omega (arith, g .shorter, s .shorter, h .shorter);
@@ -204,10 +204,10 @@ pub rule-starts : {text rest : List ℕ} {d e : Draft} → TookTerm text rest d 
 unfolding spell-formula tree-formula
 rule-starts h = record { parts = no-term; splits = refl; adds = λ f ls x. x; stops = h .stops; shorter = omega arith }
 
-pub rule-goes-on : {r0 rest next after : List ℕ} {d0 d1 d2 d3 : Draft} (i j : ℕ) → GrewTerms r0 rest d0 d1
-    → Begins rest Bar after → TookTerm after next d1 d2 → Pushed d2 (line.Or i j) d3 → i ≡ d1 .count - 1
-    → j ≡ d2 .count - 1 → GrewTerms r0 next d0 d3
-rule-goes-on {next = next} {d3 = d3} i j g s h p x y =
+pub rule-goes-on : {r0 rest next after : List ℕ} {d0 d1 d2 d3 : Draft} (i : ℕ) → GrewTerms r0 rest d0 d1
+    → Begins rest Bar after → TookTerm after next d1 d2 → Pushed d2 (line.Or i (d2 .count - 1)) d3 → i ≡ d1 .count - 1
+    → GrewTerms r0 next d0 d3
+rule-goes-on {next = next} {d3 = d3} i g s h p x =
     record {
       parts = snoc-term (g .parts) (h .part);
       splits =
@@ -217,7 +217,7 @@ rule-goes-on {next = next} {d3 = d3} i j g s h p x y =
           λ f ls w.
           let u = g .adds f ls w in
           subst (λ z. Drawn d3 (put z ls)) (sym (tree-snoc-term (g .parts) (h .part) f))
-          (push-two line.Or line.Or i j _ _ u (h .adds _ u) (not-shorter (tree-term (h .part)) _) p x y
+          (push-two line.Or line.Or i _ _ _ u (h .adds _ u) (not-shorter (tree-term (h .part)) _) p x refl
           (λ a b. refl) (λ a b z. refl));
       stops = h .stops;
       shorter = omega (arith, g .shorter, s .shorter, h .shorter);
@@ -285,10 +285,10 @@ module _ {text r1 : List ℕ} (o : Begins text OpenSquare r1) where
         body-lacks-close n (body f b g) ss e a =
             n ss (formula-same (k .part) g _ _ (sym (k .splits) ∙ limit-goes f b g ss e) (k .stops) (square-free ss) .1)
 
-        pub body-ends : {r5 : List ℕ} {d3 : Draft} (q : Quantifier) (i j : ℕ) → Begins r4 CloseSquare r5
-            → Pushed d2 (line.Until q i c j) d3 → i ≡ d1 .count - 1 → j ≡ d2 .count - 1 → TookBody q text r5 d0 d3
+        pub body-ends : {r5 : List ℕ} {d3 : Draft} (q : Quantifier) (i : ℕ) → Begins r4 CloseSquare r5
+            → PushedUntil d2 q i c d3 → i ≡ d1 .count - 1 → TookBody q text r5 d0 d3
         unfolding spell-body tree-body
-        body-ends {r5} {d3} q i j z p x y =
+        body-ends {r5} {d3} q i z p x =
             record {
               part = body (h .part) (m .limit) (k .part);
               splits =
@@ -301,7 +301,7 @@ module _ {text r1 : List ℕ} (o : Begins text OpenSquare r1) where
                   let f = tree-formula (h .part) in
                   let g = tree-formula (k .part) in
                   subst (Drawn d3) (sym (put-until q (bound-of (m .limit)) f g ls))
-                  (push-until q c (bound-of (m .limit)) i j _ _ u (k .adds _ u) (not-shorter g _) p (m .bound) x y);
+                  (push-until q c (bound-of (m .limit)) i _ _ u (k .adds _ u) (not-shorter g _) p (m .bound) x);
               stops = tt;
               shorter = omega (arith, o .shorter, h .shorter, m .shorter, k .shorter, z .shorter);
             }
@@ -395,14 +395,14 @@ item-letter k s p =
       shorter = s .shorter;
     }
 
-pub item-not : {text rest r2 : List ℕ} {d0 d1 d2 : Draft} (i : ℕ) → Begins text Bang rest → TookItem rest r2 d0 d1
-    → Pushed d1 (line.Not i) d2 → i ≡ d1 .count - 1 → TookItem text r2 d0 d2
+pub item-not : {text rest r2 : List ℕ} {d0 d1 d2 : Draft} → Begins text Bang rest → TookItem rest r2 d0 d1
+    → Pushed d1 (line.Not (d1 .count - 1)) d2 → TookItem text r2 d0 d2
 unfolding spell-formula tree-formula
-item-not i s h p x =
+item-not s h p =
     record {
       part = not (h .part);
       splits = s .splits ∙ ap (λ us. Bang ∷ us) (h .splits);
-      adds = λ ls w. push-one line.Not i _ (h .adds ls w) p x (λ k. refl);
+      adds = λ ls w. push-one line.Not _ _ (h .adds ls w) p refl (λ k. refl);
       stops = tt;
       shorter = omega (arith, s .shorter, h .shorter);
     }

@@ -1,11 +1,13 @@
 -- What the readers promise.
 use mathlib.Core.Path.{_≡_}
 use mathlib.Core.List.{List, [], _∷_}
+use mathlib.Core.Bool.{Bool, cond}
 use Prim.Native.Nat.{ℕ, _<_}
 use lib.ListN.{length}
 use denote.Ref.{RefT, now}
 use Rattle.std.specs.declared.option.Option.{Option}
 use Rattle.std.specs.declared.option.Option.the-variants as option
+use Rattle.std.specs.Orderings.{When}
 use Rattle.tctl.specs.Rules.{Rule}
 use Rattle.rules.specs.declared.line.Bound.{Bound}
 use Rattle.rules.specs.declared.line.Bound.the-variants.{AtMost, AtLeast}
@@ -15,6 +17,9 @@ use Rattle.rules.specs.Postorder.{put}
 use Rattle.signs.specs.declared.Sign.{Sign}
 use Rattle.signs.specs.declared.Sign.the-variants.{Amp, Bar}
 use Rattle.signs.specs.Signs.{signs, cap}
+use Rattle.signs.specs.First.{Begins}
+use Rattle.reader.specs.declared.ReadFault.{ReadFault}
+use Rattle.reader.specs.declared.ReadFault.the-variants.{NotARule, NumberTooLarge, TooManyLines}
 use Rattle.reader.specs.declared.draft.Draft.{Draft}
 use Rattle.reader.specs.Drafts.{Drawn}
 use Rattle.reader.specs.Parts.{Limit, spell-limit, bound-of, spell-formula, spell-term, spell-item, spell-body}
@@ -80,3 +85,13 @@ pub record Took-limit (text : List ℕ) (b : Bound) (rest : List ℕ) : Type 0 w
 abbrev pub Limits : List ℕ → Option (Bound × RefT (List ℕ)) → Type 0
 Limits text (option.Some p) = Took-limit text (p .0) (now (p .1))
 Limits text option.None = (b : Limit) (ss : List Sign) → signs text ≡ spell-limit b ss → ⊥
+
+-- whether a text has no sign left
+abbrev pub Ends : List ℕ → Bool → Type 0
+Ends text r = When r (signs text ≡ []) ((s : Sign) × (rest : List ℕ) × Begins text s rest)
+
+-- the first fault that fits a text that begins with a rule: signs are left, a number is too large, lines are too many
+abbrev pub firstFault : Bool → Bool → Bool → Option ReadFault
+firstFault ended large crowded =
+    cond ended (cond large (option.Some NumberTooLarge) (cond crowded (option.Some TooManyLines) option.None))
+    (option.Some NotARule)

@@ -44,8 +44,7 @@ fn read_item<'a>(text: &'a [u8], draft: &mut Draft) -> Option<&'a [u8]>
         }
         Sign::Bang => {
             let rest = read_item(rest, draft)?;
-            let part = draft.last();
-            draft.push(Line::Not(part));
+            draft.push_not();
             Some(rest)
         }
         Sign::Open => {
@@ -66,14 +65,8 @@ fn read_until<'a>(text: &'a [u8], quantifier: Quantifier, draft: &mut Draft) -> 
     let left = draft.last();
     let (bound, rest) = read_bound(rest)?;
     let rest = read_rule(rest, draft)?;
-    let right = draft.last();
     let rest = after_sign(rest, Sign::CloseSquare)?;
-    draft.push(Line::Until {
-        quantifier,
-        left,
-        bound,
-        right,
-    });
+    draft.push_until(quantifier, left, bound);
     Some(rest)
 }
 
@@ -84,8 +77,7 @@ fn read_term<'a>(text: &'a [u8], draft: &mut Draft) -> Option<&'a [u8]>
     while let Some(after) = after_sign(rest, Sign::Amp) {
         let left = draft.last();
         rest = read_item(after, draft)?;
-        let right = draft.last();
-        draft.push(Line::And(left, right));
+        draft.push_and(left);
     }
     Some(rest)
 }
@@ -98,8 +90,7 @@ pub fn read_rule<'a>(text: &'a [u8], draft: &mut Draft) -> Option<&'a [u8]>
     while let Some(after) = after_sign(rest, Sign::Bar) {
         let left = draft.last();
         rest = read_term(after, draft)?;
-        let right = draft.last();
-        draft.push(Line::Or(left, right));
+        draft.push_or(left);
     }
     Some(rest)
 }

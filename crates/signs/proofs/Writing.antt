@@ -13,11 +13,11 @@ use Rattle.rules.specs.declared.line.Quantifier.the-variants as quantifier
 use Rattle.signs.specs.declared.Sign.{Sign}
 use Rattle.signs.specs.declared.Sign.the-variants.{Open, Close, OpenSquare, CloseSquare, Bang, Amp, Bar, Each, Until}
 use Rattle.signs.specs.declared.Sign.the-variants.{UntilAtMost, UntilAtLeast, Letter, Number, Bad}
-use Rattle.signs.specs.Signs.{digit, run, value, pair, plain, sign, more, signsAfter, signs}
+use Rattle.signs.specs.Signs.{digit, run, value, pair, plainSign, sign, more, signsAfter, signs}
 use Rattle.signs.specs.Writing.{Digit, worth, Numeral, Spells, Starts, Apart, Space, Writes, Good}
 use Rattle.signs.specs.Writing.{Signs-right}
 use Rattle.signs.proofs.Lexing.{digit-yes, digit-no, first-byte, letter-begins, number-begins}
-use Rattle.signs.proofs.Letters.{by-cond}
+use Rattle.signs.proofs.Conds.{by-cond, both-cond}
 
 -- from what is written to signs
 
@@ -147,11 +147,6 @@ front (b ∷ bs) = go (eqb b 32) refl (front bs)
     go true t (begins ws x xs a n e) = begins (b ∷ ws) x xs (eqb-true b 32 t, a) n (ap (λ ys. b ∷ ys) e)
     go false t f = begins [] b bs tt (eqb-false b 32 t) refl
 
-pub both-cond : {A B : Type 0} (P : A → B → Type 0) (x : Bool) (a b : A) (c d : B) → (x ≡ true → P a c)
-    → (x ≡ false → P b d) → P (cond x a b) (cond x c d)
-both-cond P true a b c d f g = f refl
-both-cond P false a b c d f g = g refl
-
 digit-bounds : (b : ℕ) → digit b ≡ true → Digit b
 digit-bounds b e = go (leb 48 b) refl (leb b 57) refl e
   where
@@ -215,7 +210,7 @@ letter-meant b bs true true p q g =
 letter-meant b bs true false p q g = absurd (g refl)
 letter-meant b bs false y p q g = absurd (g refl)
 
-plain-meant : (b : ℕ) (bs : List ℕ) → Meant b bs (plain b) 0
+plain-meant : (b : ℕ) (bs : List ℕ) → Meant b bs (plainSign b) 0
 plain-meant b bs =
     let P : Sign → Type 0 = λ s. Meant b bs s 0 in
     by-cond P (eqb b 40) _ _ (λ e g. (one-byte b 40 e, tt)) (λ _.

@@ -15,8 +15,8 @@ loop-text-again c =
     let l : 1 ≤ length t = omega (arith, ltb-false) in
     let low : 48 ≤ getD t 0 0 = omega arith in
     let high : getD t 0 0 ≤ 57 = omega arith in (
-      ap (λ xs. cap (value (c .min-value .result) xs)) (take-rest t 1) ∙ ap (λ v. cap (value v (drop 1 t)))
-          (c .min-value .ensures) ∙ value-more (c .loop-text .value) t l low high ∙ c .loop-text .inv .0,
+      ap (λ xs. cap (value (c .with-digit-value .result) xs)) (take-rest t 1) ∙ ap (λ v. cap (value v (drop 1 t)))
+          (c .with-digit-value .ensures) ∙ value-more (c .loop-text .value) t l low high ∙ c .loop-text .inv .0,
       ap (λ xs. drop (run xs) xs) (take-rest t 1) ∙ run-more t l low high ∙ c .loop-text .inv .1,
       omega arith,
     )

@@ -43,8 +43,8 @@ read-item-returns-in-Letter t c =
 
 pub read-item-returns-in-Continue-rest : need.read-item-returns-in-Continue-rest
 read-item-returns-in-Continue-rest t c =
-    item-not _ (exactly (c .in-Bang .is) tt (c .in-Continue-first .ensures tt)) (c .in-Continue-rest .ensures tt)
-    (c .push-in-Bang .ensures) (c .last-part .ensures)
+    item-not (exactly (c .in-Bang .is) tt (c .in-Continue-first .ensures tt)) (c .in-Continue-rest .ensures tt)
+    (c .push-not .ensures)
 
 pub read-item-returns-in-Continue-rest-2 : need.read-item-returns-in-Continue-rest-2
 read-item-returns-in-Continue-rest-2 t c =
@@ -75,8 +75,8 @@ read-rule-returns-in-Break-rest-2 t c =
 
 pub read-rule-loop-after-again : need.read-rule-loop-after-again
 read-rule-loop-after-again t c =
-    rule-goes-on _ _ (c .loop-after .inv) (exactly refl tt (c .in-Some .ensures tt)) (c .in-Continue-rest-2 .ensures tt)
-    (c .push .ensures) (c .last-left .ensures) (c .last-right .ensures)
+    rule-goes-on _ (c .loop-after .inv) (exactly refl tt (c .in-Some .ensures tt)) (c .in-Continue-rest-2 .ensures tt)
+    (c .push-or .ensures) (c .last-left .ensures)
 
 pub read-rule-returns : need.read-rule-returns
 read-rule-returns t c =
@@ -96,8 +96,8 @@ read-term-returns-in-Break-rest-2 t c =
 
 pub read-term-loop-after-again : need.read-term-loop-after-again
 read-term-loop-after-again t c =
-    term-goes-on _ _ (c .loop-after .inv) (exactly refl tt (c .in-Some .ensures tt)) (c .in-Continue-rest-2 .ensures tt)
-    (c .push .ensures) (c .last-left .ensures) (c .last-right .ensures)
+    term-goes-on _ (c .loop-after .inv) (exactly refl tt (c .in-Some .ensures tt)) (c .in-Continue-rest-2 .ensures tt)
+    (c .push-and .ensures) (c .last-left .ensures)
 
 pub read-term-returns : need.read-term-returns
 read-term-returns t c =
@@ -135,5 +135,5 @@ pub read-until-returns : need.read-until-returns
 read-until-returns t c =
     body-ends (exactly refl tt (c .in-Continue-rest .ensures tt)) (c .in-Continue-rest-2 .ensures tt)
     (c .in-Continue-bound .ensures tt) (c .in-Continue-rest-3 .ensures tt)
-    (c .args .quantifier) _ _ (exactly refl tt (c .in-Continue-rest-4 .ensures tt)) (c .push .ensures)
-    (c .last-left .ensures) (c .last-right .ensures)
+    (c .args .quantifier) _ (exactly refl tt (c .in-Continue-rest-4 .ensures tt)) (c .push-until .ensures)
+    (c .last-left .ensures)
