@@ -1,7 +1,5 @@
 -- A part whose signs name letters from a to p is a tree with such letters.
-use mathlib.Core.Path.{_≡_, refl, sym, ap, subst, _∙_}
-use mathlib.Core.List.{List, [], _∷_}
-use Prim.Native.Nat.{ℕ}
+use mathlib.Core.List.{List, _∷_}
 use Rattle.std.specs.shelf.Lists.{All}
 use Rattle.tctl.specs.Rules.{Rule}
 use Rattle.rules.specs.declared.line.Bound.{Bound}
@@ -13,7 +11,10 @@ use Rattle.rules.proofs.Postorder.{Lettered}
 use Rattle.signs.specs.declared.Sign.{Sign}
 use Rattle.signs.specs.declared.Sign.the-variants.{Close, CloseSquare}
 use Rattle.signs.proofs.Letters.{Fair}
-use Rattle.reader.specs.Parts.{Limit, plain, at-most, at-least, Formula, Terms, Term, Items, Item, terms, no-term, bar, items, no-item, amp, one, letter, not, round, until, spell-limit, bound-of, spell-formula, spell-terms, spell-term, spell-items, spell-item, tree-formula, tree-terms, tree-term, tree-items, tree-item}
+use Rattle.reader.specs.Parts.{Limit, plain, at-most, at-least, Formula, Terms, Term, Items, Item, terms, no-term, bar}
+use Rattle.reader.specs.Parts.{items, no-item, amp, one, letter, not, round, until, spell-limit, bound-of}
+use Rattle.reader.specs.Parts.{spell-formula, spell-terms, spell-term, spell-items, spell-item, tree-formula}
+use Rattle.reader.specs.Parts.{tree-terms, tree-term, tree-items, tree-item}
 
 limit-fair : (b : Limit) (ss : List Sign) → All Fair (spell-limit b ss) → All Fair ss
 limit-fair plain ss a = a .1
@@ -29,12 +30,14 @@ until-lettered Every (AtLeast c) f g x y = (x, y)
 mutual
   unfolding spell-formula tree-formula
 
-  pub formula-lettered : (f : Formula) (ss : List Sign) → All Fair (spell-formula f ss) → Lettered (tree-formula f) × All Fair ss
+  pub formula-lettered : (f : Formula) (ss : List Sign) → All Fair (spell-formula f ss)
+      → Lettered (tree-formula f) × All Fair ss
   formula-lettered (terms t ts) ss a =
       let x = term-lettered t (spell-terms ts ss) a in
       terms-lettered ts (tree-term t) ss (x .0) (x .1)
 
-  terms-lettered : (ts : Terms) (f : Rule) (ss : List Sign) → Lettered f → All Fair (spell-terms ts ss) → Lettered (tree-terms ts f) × All Fair ss
+  terms-lettered : (ts : Terms) (f : Rule) (ss : List Sign) → Lettered f → All Fair (spell-terms ts ss)
+      → Lettered (tree-terms ts f) × All Fair ss
   terms-lettered no-term f ss l a = (l, a)
   terms-lettered (bar t ts) f ss l a =
       let x = term-lettered t (spell-terms ts ss) (a .1) in
@@ -45,7 +48,8 @@ mutual
       let x = item-lettered i (spell-items is ss) a in
       items-lettered is (tree-item i) ss (x .0) (x .1)
 
-  items-lettered : (is : Items) (f : Rule) (ss : List Sign) → Lettered f → All Fair (spell-items is ss) → Lettered (tree-items is f) × All Fair ss
+  items-lettered : (is : Items) (f : Rule) (ss : List Sign) → Lettered f → All Fair (spell-items is ss)
+      → Lettered (tree-items is f) × All Fair ss
   items-lettered no-item f ss l a = (l, a)
   items-lettered (amp i is) f ss l a =
       let x = item-lettered i (spell-items is ss) (a .1) in

@@ -1,11 +1,13 @@
 -- A text has at most one reading.
-use mathlib.Core.Path.{_≡_, refl, sym, ap, subst, _∙_}
-use mathlib.Core.List.{List, [], _∷_}
+use mathlib.Core.Path.{_≡_, refl, sym, subst}
+use mathlib.Core.List.{List, _∷_}
 use Prim.Native.Nat.{ℕ}
 use native.Mathlib.Omega.{arith}
 use Rattle.signs.specs.declared.Sign.{Sign}
-use Rattle.signs.specs.declared.Sign.the-variants.{Open, Close, OpenSquare, CloseSquare, Bang, Amp, Bar, Each, Until, UntilAtMost, UntilAtLeast, Letter, Number, Bad}
-use Rattle.reader.specs.Parts.{Limit, plain, at-most, at-least, Formula, Terms, Term, Items, Item, terms, no-term, bar, items, no-item, amp, one, letter, not, round, until, spell-limit, spell-formula, spell-terms, spell-term, spell-items, spell-item}
+use Rattle.signs.specs.declared.Sign.the-variants.{Close, CloseSquare, Amp, Bar}
+use Rattle.reader.specs.Parts.{Limit, plain, at-most, at-least, Formula, Terms, Term, Items, Item, terms, no-term, bar}
+use Rattle.reader.specs.Parts.{items, no-item, amp, one, letter, not, round, until, spell-limit, spell-formula}
+use Rattle.reader.specs.Parts.{spell-terms, spell-term, spell-items, spell-item}
 use Rattle.reader.specs.Reads.{Without, No-amp, No-joint}
 
 abbrev Same : {F : Type 0} → F → F → List Sign → List Sign → Type 0
@@ -13,9 +15,12 @@ Same p q ss us = (p ≡ q) × (ss ≡ us)
 
 -- after a limit something else stands
 pub limit-free : (b : Limit) (ss : List Sign) → No-joint (spell-limit b ss)
-limit-free plain ss = (λ e. let z : _≡_ {A = ℕ} 0 1 = cc in omega arith, λ e. let z : _≡_ {A = ℕ} 0 1 = cc in omega arith)
-limit-free (at-most n) ss = (λ e. let z : _≡_ {A = ℕ} 0 1 = cc in omega arith, λ e. let z : _≡_ {A = ℕ} 0 1 = cc in omega arith)
-limit-free (at-least n) ss = (λ e. let z : _≡_ {A = ℕ} 0 1 = cc in omega arith, λ e. let z : _≡_ {A = ℕ} 0 1 = cc in omega arith)
+limit-free plain ss =
+    (λ e. let z : _≡_ {A = ℕ} 0 1 = cc in omega arith, λ e. let z : _≡_ {A = ℕ} 0 1 = cc in omega arith)
+limit-free (at-most n) ss =
+    (λ e. let z : _≡_ {A = ℕ} 0 1 = cc in omega arith, λ e. let z : _≡_ {A = ℕ} 0 1 = cc in omega arith)
+limit-free (at-least n) ss =
+    (λ e. let z : _≡_ {A = ℕ} 0 1 = cc in omega arith, λ e. let z : _≡_ {A = ℕ} 0 1 = cc in omega arith)
 
 pub limit-same : (b d : Limit) (ss us : List Sign) → spell-limit b ss ≡ spell-limit d us → Same b d ss us
 limit-same plain plain ss us e = (refl, cc)
@@ -46,29 +51,35 @@ square-free ss = (λ e. let z : _≡_ {A = ℕ} 0 1 = cc in omega arith, λ e. l
 mutual
   unfolding spell-formula
 
-  pub formula-same : (f g : Formula) (ss us : List Sign) → spell-formula f ss ≡ spell-formula g us → No-joint ss → No-joint us → Same f g ss us
+  pub formula-same : (f g : Formula) (ss us : List Sign) → spell-formula f ss ≡ spell-formula g us → No-joint ss
+      → No-joint us → Same f g ss us
   formula-same (terms t ts) (terms v vs) ss us e p q =
-      let a = term-same t v (spell-terms ts ss) (spell-terms vs us) e (terms-free ts ss (p .0)) (terms-free vs us (q .0)) in
+      let a =
+      term-same t v (spell-terms ts ss) (spell-terms vs us) e (terms-free ts ss (p .0)) (terms-free vs us (q .0)) in
       let b = terms-same ts vs ss us (a .1) p q in
       (cc (a .0, b .0), b .1)
 
-  pub terms-same : (ts vs : Terms) (ss us : List Sign) → spell-terms ts ss ≡ spell-terms vs us → No-joint ss → No-joint us → Same ts vs ss us
+  pub terms-same : (ts vs : Terms) (ss us : List Sign) → spell-terms ts ss ≡ spell-terms vs us → No-joint ss
+      → No-joint us → Same ts vs ss us
   terms-same no-term no-term ss us e p q = (refl, e)
   terms-same no-term (bar v vs) ss us e p q = barred Bar ss _ e (p .1)
   terms-same (bar t ts) no-term ss us e p q = barred Bar us _ (sym e) (q .1)
   terms-same (bar t ts) (bar v vs) ss us e p q =
       let h : spell-term t (spell-terms ts ss) ≡ spell-term v (spell-terms vs us) = cc in
-      let a = term-same t v (spell-terms ts ss) (spell-terms vs us) h (terms-free ts ss (p .0)) (terms-free vs us (q .0)) in
+      let a =
+      term-same t v (spell-terms ts ss) (spell-terms vs us) h (terms-free ts ss (p .0)) (terms-free vs us (q .0)) in
       let b = terms-same ts vs ss us (a .1) p q in
       (cc (a .0, b .0), b .1)
 
-  pub term-same : (t v : Term) (ss us : List Sign) → spell-term t ss ≡ spell-term v us → No-amp ss → No-amp us → Same t v ss us
+  pub term-same : (t v : Term) (ss us : List Sign) → spell-term t ss ≡ spell-term v us → No-amp ss → No-amp us
+      → Same t v ss us
   term-same (items i is) (items j js) ss us e p q =
       let a = item-same i j (spell-items is ss) (spell-items js us) e in
       let b = items-same is js ss us (a .1) p q in
       (cc (a .0, b .0), b .1)
 
-  pub items-same : (is js : Items) (ss us : List Sign) → spell-items is ss ≡ spell-items js us → No-amp ss → No-amp us → Same is js ss us
+  pub items-same : (is js : Items) (ss us : List Sign) → spell-items is ss ≡ spell-items js us → No-amp ss → No-amp us
+      → Same is js ss us
   items-same no-item no-item ss us e p q = (refl, e)
   items-same no-item (amp j js) ss us e p q = barred Amp ss _ e p
   items-same (amp i is) no-item ss us e p q = barred Amp us _ (sym e) q

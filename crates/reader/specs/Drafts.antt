@@ -1,13 +1,16 @@
 -- What a draft stands for: lines without limit, of which it keeps the first 32.
 use mathlib.Core.Path.{_≡_}
-use mathlib.Core.List.{List, [], _∷_}
+use mathlib.Core.List.{List}
 use mathlib.Core.Bool.{true, cond}
-use Prim.Native.Nat.{ℕ, _+_, _≤_, min}
+use Prim.Native.Nat.{ℕ, _+_, _-_, _≤_, _<_, min}
 use lib.Dec.{ltb}
 use lib.ListN.{length, set, take}
 use Rattle.std.specs.Orderings.{When}
+use Rattle.rules.specs.declared.line.Bound.{Bound}
 use Rattle.rules.specs.declared.line.Line.{Line}
-use Rattle.rules.specs.Lines.{largestNumber}
+use Rattle.rules.specs.declared.line.Line.the-variants.{Until}
+use Rattle.rules.specs.declared.line.Quantifier.{Quantifier}
+use Rattle.rules.specs.Lines.{mostLines, largestNumber}
 use Rattle.rules.specs.Postorder.{lineNumber, Small, Large}
 use Rattle.reader.specs.declared.draft.Draft.{Draft}
 
@@ -21,4 +24,8 @@ pub record Drawn (d : Draft) (ls : List Line) : Type 0 where
 pub record Pushed (d : Draft) (l : Line) (e : Draft) : Type 0 where
   pub counted : e .count ≡ min (d .count + 1) 33
   pub noted : e .large ≡ cond (ltb largestNumber (lineNumber l)) true (d .large)
-  pub kept : e .lines ≡ set (d .lines) (d .count) l
+  pub kept : d .count < mostLines → e .lines ≡ set (d .lines) (d .count) l
+
+-- An until is noted whose right part is the last line.
+abbrev pub PushedUntil : Draft → Quantifier → ℕ → Bound → Draft → Type 0
+PushedUntil d q left b e = Pushed d (Until q left b (d .count - 1)) e

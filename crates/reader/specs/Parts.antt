@@ -1,5 +1,5 @@
 -- The parts of a text as the readers take them, how each is written in signs, and the tree that it is.
-use mathlib.Core.List.{List, [], _∷_}
+use mathlib.Core.List.{List, _∷_}
 use Prim.Native.Nat.{ℕ}
 use Rattle.tctl.specs.Rules as tree
 use Rattle.tctl.specs.Rules.{Rule}
@@ -8,7 +8,8 @@ use Rattle.rules.specs.declared.line.Bound.the-variants.{AtMost, AtLeast}
 use Rattle.rules.specs.declared.line.Quantifier.{Quantifier}
 use Rattle.rules.specs.Lines.{untilRule}
 use Rattle.signs.specs.declared.Sign.{Sign}
-use Rattle.signs.specs.declared.Sign.the-variants.{Open, Close, OpenSquare, CloseSquare, Bang, Amp, Bar, Each, Until, UntilAtMost, UntilAtLeast, Letter, Number}
+use Rattle.signs.specs.declared.Sign.the-variants.{Open, Close, OpenSquare, CloseSquare, Bang, Amp, Bar, Each, Until}
+use Rattle.signs.specs.declared.Sign.the-variants.{UntilAtMost, UntilAtLeast, Letter, Number}
 
 pub data Limit : Type 0 where
   plain : Limit
@@ -70,7 +71,8 @@ unfoldable mutual
   spell-item (letter k) ss = Letter k ∷ ss
   spell-item (not i) ss = Bang ∷ spell-item i ss
   spell-item (round f) ss = Open ∷ spell-formula f (Close ∷ ss)
-  spell-item (until q f b g) ss = Each q ∷ OpenSquare ∷ spell-formula f (spell-limit b (spell-formula g (CloseSquare ∷ ss)))
+  spell-item (until q f b g) ss =
+      Each q ∷ OpenSquare ∷ spell-formula f (spell-limit b (spell-formula g (CloseSquare ∷ ss)))
 
 unfoldable mutual
   pub tree-formula : Formula → Rule

@@ -1,6 +1,7 @@
 // Reads the text of a rule into its lines, or says why it is none. Rests on the signs of a text (`signs`) and on the
 // lines of a rule (`rules`).
 ghost use mathlib.Core.Path.{_≡_};
+ghost use Rattle.reader.specs.Reads.{Ends, firstFault};
 ghost use Rattle.reader.specs.Answer.{faultNumber, Answers, One-reading, One-answer};
 
 mod draft;
@@ -8,7 +9,6 @@ mod noting;
 mod parts;
 
 use crate::draft::Draft;
-use rules::rule::MOST_LINES;
 use rules::rule::Rule;
 use signs::next_sign;
 
@@ -40,6 +40,31 @@ impl ReadFault {
 // The most bytes of a text.
 pub const LONGEST: usize = 512;
 
+// No sign is left.
+fn ends(text: &[u8]) -> bool
+    ensures { λ r. ⌜ Ends (now (text .entry)) r ⌝ }
+{
+    match next_sign(text) {
+        Some((_, _)) => false,
+        None => true,
+    }
+}
+
+// The first fault that fits a text that begins with a rule.
+fn first_fault(ended: bool, large: bool, crowded: bool) -> Option<ReadFault>
+    ensures { λ r. ⌜ r ≡ firstFault ended large crowded ⌝ }
+{
+    if !ended {
+        Some(ReadFault::NotARule)
+    } else if large {
+        Some(ReadFault::NumberTooLarge)
+    } else if crowded {
+        Some(ReadFault::TooManyLines)
+    } else {
+        None
+    }
+}
+
 // Reads a rule, or says why the text is refused: the first fault that fits, in the order of their numbers.
 pub fn read(text: &[u8]) -> Result<Rule, ReadFault>
     ensures { λ r. ⌜ Answers (now (text .entry)) r ⌝ }
@@ -51,19 +76,13 @@ pub fn read(text: &[u8]) -> Result<Rule, ReadFault>
     let Some(rest) = parts::read_rule(text, &mut draft) else {
         return Err(ReadFault::NotARule);
     };
-    if let Some((_, _)) = next_sign(rest) {
-        return Err(ReadFault::NotARule);
+    match first_fault(ends(rest), draft.large, draft.crowded()) {
+        Some(fault) => Err(fault),
+        None => Ok(Rule {
+            lines: draft.lines,
+            count: draft.count,
+        }),
     }
-    if draft.large {
-        return Err(ReadFault::NumberTooLarge);
-    }
-    if draft.count > MOST_LINES {
-        return Err(ReadFault::TooManyLines);
-    }
-    Ok(Rule {
-        lines: draft.lines,
-        count: draft.count,
-    })
 }
 
 // A text has at most one reading.

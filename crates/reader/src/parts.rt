@@ -1,6 +1,5 @@
 // The readers of a rule, a term and an item, which call each other in a cycle; the bytes that are left fall.
-ghost use Rattle.reader.specs.Parts.{spell-formula, tree-formula, spell-term, tree-term, spell-item, tree-item, spell-body, tree-body};
-ghost use Rattle.reader.specs.Reads.{Limits, Reads, Anything, No-amp, No-joint};
+ghost use Rattle.reader.specs.Reads.{Limits, ReadsRule, ReadsTerm, ReadsItem, ReadsBody};
 use crate::draft::Draft;
 use rules::line::Bound;
 use rules::line::Line;
@@ -28,7 +27,7 @@ fn read_bound(text: &[u8]) -> Option<(Bound, &[u8])>
 }
 
 fn read_item<'a>(text: &'a [u8], draft: &mut Draft) -> Option<&'a [u8]>
-    ensures { λ r. ⌜ Reads spell-item tree-item Anything (now (text .entry)) (now (draft .entry)) (now (draft .exit)) r ⌝ }
+    ensures { λ r. ⌜ ReadsItem (now (text .entry)) (now (draft .entry)) (now (draft .exit)) r ⌝ }
 {
     let (first, rest) = next_sign(text)?;
     match first {
@@ -45,8 +44,7 @@ fn read_item<'a>(text: &'a [u8], draft: &mut Draft) -> Option<&'a [u8]>
         }
         Sign::Bang => {
             let rest = read_item(rest, draft)?;
-            let part = draft.last();
-            draft.push(Line::Not(part));
+            draft.push_not();
             Some(rest)
         }
         Sign::Open => {
@@ -60,47 +58,39 @@ fn read_item<'a>(text: &'a [u8], draft: &mut Draft) -> Option<&'a [u8]>
 
 // What stands after `E` or `A`.
 fn read_until<'a>(text: &'a [u8], quantifier: Quantifier, draft: &mut Draft) -> Option<&'a [u8]>
-    ensures { λ r. ⌜ Reads spell-body (tree-body quantifier) Anything (now (text .entry)) (now (draft .entry)) (now (draft .exit)) r ⌝ }
+    ensures { λ r. ⌜ ReadsBody quantifier (now (text .entry)) (now (draft .entry)) (now (draft .exit)) r ⌝ }
 {
     let rest = after_sign(text, Sign::OpenSquare)?;
     let rest = read_rule(rest, draft)?;
     let left = draft.last();
     let (bound, rest) = read_bound(rest)?;
     let rest = read_rule(rest, draft)?;
-    let right = draft.last();
     let rest = after_sign(rest, Sign::CloseSquare)?;
-    draft.push(Line::Until {
-        quantifier,
-        left,
-        bound,
-        right,
-    });
+    draft.push_until(quantifier, left, bound);
     Some(rest)
 }
 
 fn read_term<'a>(text: &'a [u8], draft: &mut Draft) -> Option<&'a [u8]>
-    ensures { λ r. ⌜ Reads spell-term tree-term No-amp (now (text .entry)) (now (draft .entry)) (now (draft .exit)) r ⌝ }
+    ensures { λ r. ⌜ ReadsTerm (now (text .entry)) (now (draft .entry)) (now (draft .exit)) r ⌝ }
 {
     let mut rest = read_item(text, draft)?;
     while let Some(after) = after_sign(rest, Sign::Amp) {
         let left = draft.last();
         rest = read_item(after, draft)?;
-        let right = draft.last();
-        draft.push(Line::And(left, right));
+        draft.push_and(left);
     }
     Some(rest)
 }
 
 // Terms joined by `|`, up to what is neither `|` nor `&`.
 pub fn read_rule<'a>(text: &'a [u8], draft: &mut Draft) -> Option<&'a [u8]>
-    ensures { λ r. ⌜ Reads spell-formula tree-formula No-joint (now (text .entry)) (now (draft .entry)) (now (draft .exit)) r ⌝ }
+    ensures { λ r. ⌜ ReadsRule (now (text .entry)) (now (draft .entry)) (now (draft .exit)) r ⌝ }
 {
     let mut rest = read_term(text, draft)?;
     while let Some(after) = after_sign(rest, Sign::Bar) {
         let left = draft.last();
         rest = read_term(after, draft)?;
-        let right = draft.last();
-        draft.push(Line::Or(left, right));
+        draft.push_or(left);
     }
     Some(rest)
 }

@@ -1,7 +1,7 @@
 -- The lines of a rule stand for its parts.
-use mathlib.Core.Path.{_≡_, refl, sym, ap, subst, _∙_}
+use mathlib.Core.Path.{_≡_, refl, sym, ap, _∙_}
 use mathlib.Core.List.{List, [], _∷_, _++_}
-use Prim.Native.Nat.{ℕ, _+_, _-_, _≤_, _<_}
+use Prim.Native.Nat.{ℕ, _+_, _<_}
 use native.Mathlib.Omega.{arith}
 use lib.ListN.{length, getD}
 use Rattle.std.proofs.shelf.Lists.{append-assoc, length-push, getD-append-left, getD-push}
@@ -11,10 +11,12 @@ use Rattle.rules.specs.declared.line.Quantifier.the-variants.{Some, All}
 use Rattle.rules.specs.declared.line.Line.{Line}
 use Rattle.rules.specs.declared.line.Line.the-variants.{One, Letter, Not, And, Or, Until}
 use Rattle.rules.specs.Lines.{untilRule, ruleFrom, rulesOf, ruleAt}
-use Rattle.rules.specs.Postorder.{boundLine, last, afterOne, afterTwo, put, linesOf, partsOf, Stand, Lines-stand, Lines-tell}
+use Rattle.rules.specs.Postorder.{boundLine, last, afterOne, afterTwo, put, linesOf, partsOf, Lines-stand}
+use Rattle.rules.specs.Postorder.{Lines-tell}
 use Rattle.rules.proofs.Postorder.{put-longer}
 
-rules-push : (rs : List Rule) (ls : List Line) (l : Line) → rulesOf rs (ls ++ (l ∷ [])) ≡ rulesOf rs ls ++ (ruleFrom (rulesOf rs ls) l ∷ [])
+rules-push : (rs : List Rule) (ls : List Line) (l : Line)
+    → rulesOf rs (ls ++ (l ∷ [])) ≡ rulesOf rs ls ++ (ruleFrom (rulesOf rs ls) l ∷ [])
 rules-push rs [] l = refl
 rules-push rs (m ∷ ls) l = rules-push (rs ++ (ruleFrom rs m ∷ [])) ls l
 
@@ -48,15 +50,16 @@ Goes f ls = rulesOf [] (put f ls) ≡ rulesOf [] ls ++ partsOf f
 goes-last : (f : Rule) (ls : List Line) → Goes f ls → getD (rulesOf [] (put f ls)) (last (put f ls)) one ≡ f
 goes-last f ls h =
     let p = parts-end f in
-    let e : rulesOf [] (put f ls) ≡ (rulesOf [] ls ++ p .0) ++ (f ∷ []) = h ∙ ap (λ xs. rulesOf [] ls ++ xs) (p .1) ∙ sym (append-assoc (rulesOf [] ls) (p .0) (f ∷ [])) in
+    let e : rulesOf [] (put f ls) ≡ (rulesOf [] ls ++ p .0) ++ (f ∷ []) =
+    h ∙ ap (λ xs. rulesOf [] ls ++ xs) (p .1) ∙ sym (append-assoc (rulesOf [] ls) (p .0) (f ∷ [])) in
     let k : length (rulesOf [] ls ++ p .0) ≡ last (put f ls) =
     omega (arith, rules-length [] (put f ls), ap length e, length-push (rulesOf [] ls ++ p .0) f) in
     ap (λ xs. getD xs (last (put f ls)) one) e ∙ getD-push (rulesOf [] ls ++ p .0) f one (last (put f ls)) k
 
 -- one line more, after those of a part
-goes-one : (make : ℕ → Line) (grow : Rule → Rule) (f : Rule) (ls : List Line) → Goes f ls →
-    ((rs : List Rule) (i : ℕ) → ruleFrom rs (make i) ≡ grow (getD rs i one)) →
-    rulesOf [] (afterOne make (put f ls)) ≡ rulesOf [] ls ++ (partsOf f ++ (grow f ∷ []))
+goes-one : (make : ℕ → Line) (grow : Rule → Rule) (f : Rule) (ls : List Line) → Goes f ls
+    → ((rs : List Rule) (i : ℕ) → ruleFrom rs (make i) ≡ grow (getD rs i one))
+    → rulesOf [] (afterOne make (put f ls)) ≡ rulesOf [] ls ++ (partsOf f ++ (grow f ∷ []))
 goes-one make grow f ls h from =
     let ms = put f ls in
     let rs = rulesOf [] ms in
@@ -64,9 +67,10 @@ goes-one make grow f ls h from =
     ∙ ap (λ xs. xs ++ (grow f ∷ [])) h ∙ append-assoc (rulesOf [] ls) (partsOf f) (grow f ∷ [])
 
 -- one line more, after those of two parts
-goes-two : (make : ℕ → ℕ → Line) (grow : Rule → Rule → Rule) (f g : Rule) (ls : List Line) → Goes f ls → Goes g (put f ls) →
-    ((rs : List Rule) (i j : ℕ) → ruleFrom rs (make i j) ≡ grow (getD rs i one) (getD rs j one)) →
-    rulesOf [] (afterTwo make (put f ls) (put g (put f ls))) ≡ rulesOf [] ls ++ (partsOf f ++ partsOf g ++ (grow f g ∷ []))
+goes-two : (make : ℕ → ℕ → Line) (grow : Rule → Rule → Rule) (f g : Rule) (ls : List Line) → Goes f ls
+    → Goes g (put f ls) → ((rs : List Rule) (i j : ℕ) → ruleFrom rs (make i j) ≡ grow (getD rs i one) (getD rs j one))
+    → rulesOf [] (afterTwo make (put f ls) (put g (put f ls)))
+    ≡ rulesOf [] ls ++ (partsOf f ++ partsOf g ++ (grow f g ∷ []))
 goes-two make grow f g ls h k from =
     let ms = put f ls in
     let ns = put g ms in
@@ -74,10 +78,12 @@ goes-two make grow f g ls h k from =
     let i = last ms in
     let j = last ns in
     let below : i < length (rulesOf [] ms) = omega (arith, rules-length [] ms, put-longer f ls) in
-    let left : getD rs i one ≡ f = ap (λ xs. getD xs i one) k ∙ getD-append-left (rulesOf [] ms) (partsOf g) one i below ∙ goes-last f ls h in
+    let left : getD rs i one ≡ f =
+    ap (λ xs. getD xs i one) k ∙ getD-append-left (rulesOf [] ms) (partsOf g) one i below ∙ goes-last f ls h in
     let right : getD rs j one ≡ g = goes-last g ms k in
-    rules-push [] ns (make i j) ∙ ap (λ x. rs ++ (x ∷ [])) (from rs i j ∙ ap (λ x. grow x (getD rs j one)) left ∙ ap (grow f) right)
-    ∙ ap (λ xs. xs ++ (grow f g ∷ [])) (k ∙ ap (λ xs. xs ++ partsOf g) h ∙ append-assoc (rulesOf [] ls) (partsOf f) (partsOf g))
+    let both-parts = from rs i j ∙ ap (λ x. grow x (getD rs j one)) left ∙ ap (grow f) right in
+    let before = k ∙ ap (λ xs. xs ++ partsOf g) h ∙ append-assoc (rulesOf [] ls) (partsOf f) (partsOf g) in
+    rules-push [] ns (make i j) ∙ ap (λ x. rs ++ (x ∷ [])) both-parts ∙ ap (λ xs. xs ++ (grow f g ∷ [])) before
     ∙ append-assoc (rulesOf [] ls) (partsOf f ++ partsOf g) (grow f g ∷ [])
 
 put-goes : (f : Rule) (ls : List Line) → Goes f ls
@@ -87,7 +93,8 @@ put-goes (not f) ls = goes-one Not not f ls (put-goes f ls) (λ rs i. refl)
 put-goes (both f g) ls = goes-two And both f g ls (put-goes f ls) (put-goes g (put f ls)) (λ rs i j. refl)
 put-goes (either f g) ls = goes-two Or either f g ls (put-goes f ls) (put-goes g (put f ls)) (λ rs i j. refl)
 put-goes (some-run f b g) ls =
-    goes-two (λ i j. Until Some i (boundLine b) j) (λ x y. some-run x b y) f g ls (put-goes f ls) (put-goes g (put f ls))
+    goes-two (λ i j. Until Some i (boundLine b) j) (λ x y. some-run x b y) f g ls (put-goes f ls)
+    (put-goes g (put f ls))
     (λ rs i j. some-back b (getD rs i one) (getD rs j one))
 put-goes (each-run f b g) ls =
     goes-two (λ i j. Until All i (boundLine b) j) (λ x y. each-run x b y) f g ls (put-goes f ls) (put-goes g (put f ls))

@@ -1,19 +1,18 @@
 -- The lines of a rule are well formed where its letters are those from a to p and its numbers small.
-use mathlib.Core.Path.{_≡_, refl, sym, ap, subst, _∙_}
+use mathlib.Core.Path.{refl, sym, subst}
 use mathlib.Core.List.{List, [], _∷_, _++_}
-use mathlib.Core.Logic.{_⊎_, inl, inr}
-use Prim.Native.Nat.{ℕ, _+_, _-_, _≤_, _<_}
+use mathlib.Core.Logic.{inl, inr}
+use Prim.Native.Nat.{ℕ, _≤_, _<_}
 use native.Mathlib.Nat.{eq-or-lt-of-le}
 use native.Mathlib.Omega.{arith}
-use lib.ListN.{length, getD, length-append}
+use lib.ListN.{length, getD}
 use Rattle.std.proofs.shelf.Lists.{getD-append-left, getD-push, length-push}
-use Rattle.tctl.specs.Rules.{Rule, one, letter, not, both, either, some-run, each-run, most, least}
-use Rattle.tctl.specs.Rules as tree
+use Rattle.tctl.specs.Rules.{Rule, one, letter, not, both, either, some-run, each-run}
 use Rattle.rules.specs.declared.line.Quantifier.the-variants.{Some, All}
 use Rattle.rules.specs.declared.line.Line.{Line}
 use Rattle.rules.specs.declared.line.Line.the-variants.{One, Letter, Not, And, Or, Until}
 use Rattle.rules.specs.Lines.{Formed, Well-formed, largestNumber}
-use Rattle.rules.specs.Postorder.{boundLine, last, afterOne, afterTwo, put, linesOf, lineNumber, Small, Large}
+use Rattle.rules.specs.Postorder.{boundLine, last, afterTwo, put, lineNumber, Small, Large}
 
 -- every letter of the rule is one of sixteen
 abbrev pub Lettered : Rule → Type 0
@@ -26,8 +25,8 @@ Lettered (some-run f b g) = Lettered f × Lettered g
 Lettered (each-run f b g) = Lettered f × Lettered g
 
 -- what is so of each line before a new one, and of that, is so of each
-push-cases : (P : ℕ → Line → Type 0) (ls : List Line) (l : Line) → ((k : ℕ) → k < length ls → P k (getD ls k One)) →
-    P (length ls) l → (k : ℕ) → k < length (ls ++ (l ∷ [])) → P k (getD (ls ++ (l ∷ [])) k One)
+push-cases : (P : ℕ → Line → Type 0) (ls : List Line) (l : Line) → ((k : ℕ) → k < length ls → P k (getD ls k One))
+    → P (length ls) l → (k : ℕ) → k < length (ls ++ (l ∷ [])) → P k (getD (ls ++ (l ∷ [])) k One)
 push-cases P ls l before here k h =
     elim (eq-or-lt-of-le {n = k} {m = length ls} (omega (arith, length-push ls l))) [
       | inl e ↦ subst (P k) (sym (getD-push ls l One k (sym e))) (subst (λ n. P n l) (sym e) here)
@@ -35,7 +34,8 @@ push-cases P ls l before here k h =
     ]
 
 -- of a line before the last, and of the last
-at-front : (P : Line → Type 0) (ls : List Line) (l : Line) (k : ℕ) → k < length ls → P (getD (ls ++ (l ∷ [])) k One) → P (getD ls k One)
+at-front : (P : Line → Type 0) (ls : List Line) (l : Line) (k : ℕ) → k < length ls → P (getD (ls ++ (l ∷ [])) k One)
+    → P (getD ls k One)
 at-front P ls l k h p = subst P (getD-append-left ls (l ∷ []) One k h) p
 
 at-last : (P : Line → Type 0) (ls : List Line) (l : Line) → P (getD (ls ++ (l ∷ [])) (length ls) One) → P l
@@ -51,15 +51,23 @@ pub small-push : (ls : List Line) (l : Line) → Small ls → lineNumber l ≤ l
 small-push ls l s h = push-cases (λ k x. lineNumber x ≤ largestNumber) ls l s h
 
 pub large-push : (ls : List Line) (l : Line) → Large ls → Large (ls ++ (l ∷ []))
-large-push ls l (k, h, n) =
-    (k, omega (arith, length-push ls l), subst (λ x. largestNumber < lineNumber x) (sym (getD-append-left ls (l ∷ []) One k h)) n)
+large-push ls l (k, h, n) = (
+  k,
+  omega (arith, length-push ls l),
+  subst (λ x. largestNumber < lineNumber x)
+      (sym (getD-append-left ls (l ∷ []) One k h)) n,
+)
 
 pub large-last : (ls : List Line) (l : Line) → largestNumber < lineNumber l → Large (ls ++ (l ∷ []))
-large-last ls l n =
-    (length ls, omega (arith, length-push ls l), subst (λ x. largestNumber < lineNumber x) (sym (getD-push ls l One (length ls) refl)) n)
+large-last ls l n = (
+  length ls,
+  omega (arith, length-push ls l),
+  subst (λ x. largestNumber < lineNumber x)
+      (sym (getD-push ls l One (length ls) refl)) n,
+)
 
-longer-two : (make : ℕ → ℕ → Line) (ls ms ns : List Line) → length ls < length ms → length ms < length ns →
-    length ls < length (afterTwo make ms ns)
+longer-two : (make : ℕ → ℕ → Line) (ls ms ns : List Line) → length ls < length ms → length ms < length ns
+    → length ls < length (afterTwo make ms ns)
 longer-two make ls ms ns p q = omega (arith, length-push ns (make (last ms) (last ns)))
 
 -- a rule adds a line at least
@@ -70,9 +78,11 @@ put-longer (not f) ls = omega (arith, put-longer f ls, length-push (put f ls) (N
 put-longer (both f g) ls = longer-two And ls (put f ls) (put g (put f ls)) (put-longer f ls) (put-longer g (put f ls))
 put-longer (either f g) ls = longer-two Or ls (put f ls) (put g (put f ls)) (put-longer f ls) (put-longer g (put f ls))
 put-longer (some-run f b g) ls =
-    longer-two (λ i j. Until Some i (boundLine b) j) ls (put f ls) (put g (put f ls)) (put-longer f ls) (put-longer g (put f ls))
+    longer-two (λ i j. Until Some i (boundLine b) j) ls (put f ls) (put g (put f ls)) (put-longer f ls)
+    (put-longer g (put f ls))
 put-longer (each-run f b g) ls =
-    longer-two (λ i j. Until All i (boundLine b) j) ls (put f ls) (put g (put f ls)) (put-longer f ls) (put-longer g (put f ls))
+    longer-two (λ i j. Until All i (boundLine b) j) ls (put f ls) (put g (put f ls)) (put-longer f ls)
+    (put-longer g (put f ls))
 
 formed-push : (ls : List Line) (l : Line) → Well-formed ls → Formed (length ls) l → Well-formed (ls ++ (l ∷ []))
 formed-push ls l w h = push-cases Formed ls l w h
@@ -88,11 +98,11 @@ put-small (some-run f b g) ls s = put-small f ls (put-small g (put f ls) (small-
 put-small (each-run f b g) ls s = put-small f ls (put-small g (put f ls) (small-front _ _ s))
 
 -- a line after those of two parts f and g, which are well formed where they are small
-formed-two : (make : ℕ → ℕ → Line) (f g : Rule) (ls : List Line) →
-    let ms = put f ls in let ns = put g ms in
-    (Well-formed ls → Small ms → Well-formed ms) → (Well-formed ms → Small ns → Well-formed ns) → Well-formed ls →
-    Small (afterTwo make ms ns) → (last ms < length ns → last ns < length ns → Formed (length ns) (make (last ms) (last ns))) →
-    Well-formed (afterTwo make ms ns)
+formed-two : (make : ℕ → ℕ → Line) (f g : Rule) (ls : List Line)
+    → let ms = put f ls in let ns = put g ms in (Well-formed ls → Small ms → Well-formed ms)
+    → (Well-formed ms → Small ns → Well-formed ns) → Well-formed ls → Small (afterTwo make ms ns)
+    → (last ms < length ns → last ns < length ns → Formed (length ns) (make (last ms) (last ns)))
+    → Well-formed (afterTwo make ms ns)
 formed-two make f g ls left right w s here =
     let ms = put f ls in let ns = put g ms in
     let t = small-front ns _ s in
@@ -111,7 +121,8 @@ put-formed (both f g) ls a w s =
 put-formed (either f g) ls a w s =
     formed-two Or f g ls (put-formed f ls (a .0)) (put-formed g (put f ls) (a .1)) w s (λ p q. (p, q))
 put-formed (some-run f b g) ls a w s =
-    formed-two (λ i j. Until Some i (boundLine b) j) f g ls (put-formed f ls (a .0)) (put-formed g (put f ls) (a .1)) w s
+    formed-two (λ i j. Until Some i (boundLine b) j) f g ls (put-formed f ls (a .0))
+    (put-formed g (put f ls) (a .1)) w s
     (λ p q. (p, q, small-last _ _ s))
 put-formed (each-run f b g) ls a w s =
     formed-two (λ i j. Until All i (boundLine b) j) f g ls (put-formed f ls (a .0)) (put-formed g (put f ls) (a .1)) w s

@@ -1,5 +1,5 @@
-// The lines of a rule: each letter, `1`, `!`, `&`, `|`, `E` and `A` is one, numbered from 0, left part, right part, then
-// the line itself, so that a line names its parts by numbers below its own.
+// The lines of a rule: each letter, `1`, `!`, `&`, `|`, `E` and `A` is one, numbered from 0, left part, right part,
+// then the line itself, so that a line names its parts by numbers below its own.
 
 // Some run from the stage (`E`), or every run (`A`).
 #[derive(Clone, Copy, Debug, PartialEq)]

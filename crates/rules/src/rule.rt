@@ -20,11 +20,17 @@ pub struct Rule {
 }
 
 impl Rule {
+    fn front(&self) -> &[Line]
+        ensures { λ r. ⌜ now r ≡ take (now (self .entry) .count) (now (self .entry) .lines) ⌝ }
+    {
+        &self.lines[0..self.count]
+    }
+
     pub fn lines(&self) -> &[Line]
         ensures value { λ r. ⌜ now r ≡ take (now (self .entry) .count) (now (self .entry) .lines) ⌝ }
         ensures formed { λ r. ⌜ Well-formed (now r) ⌝ }
         ensures few { λ r. ⌜ length (now r) ≤ 32 ⌝ }
     {
-        &self.lines[0..self.count]
+        self.front()
     }
 }

@@ -2,14 +2,16 @@
 use mathlib.Core.Path.{_≡_, refl}
 use mathlib.Core.List.{List, [], _∷_}
 use mathlib.Core.Bool.{Bool, true, false, cond}
-use Prim.Native.Nat.{ℕ, zero, suc, _-_, _≤_, _<_}
+use Prim.Native.Nat.{ℕ, zero, suc, _-_, _<_}
 use native.Mathlib.Omega.{arith}
 use borrow.Author.Tests.{leb-true}
 use lib.Dec.{eqb, leb}
 use Rattle.std.specs.shelf.Lists.{All}
 use Rattle.signs.specs.declared.Sign.{Sign}
-use Rattle.signs.specs.declared.Sign.the-variants.{Open, Close, OpenSquare, CloseSquare, Bang, Amp, Bar, Each, Until, UntilAtMost, UntilAtLeast, Letter, Number, Bad}
-use Rattle.signs.specs.Signs.{between, digit, run, pair, plain, sign, more, signsAfter, signs}
+use Rattle.signs.specs.declared.Sign.the-variants.{Open, Close, OpenSquare, CloseSquare, Bang, Amp, Bar, Each, Until}
+use Rattle.signs.specs.declared.Sign.the-variants.{UntilAtMost, UntilAtLeast, Letter, Number, Bad}
+use Rattle.signs.proofs.Conds.{by-cond}
+use Rattle.signs.specs.Signs.{digit, run, pair, plainSign, sign, more, signsAfter, signs}
 
 abbrev pub Fair : Sign → Type 0
 Fair Open = Unit {0}
@@ -27,21 +29,19 @@ Fair (Letter k) = k < 16
 Fair (Number n) = Unit {0}
 Fair Bad = Unit {0}
 
--- what holds of a choice holds of both sides, each under its test
-pub by-cond : {A : Type 0} (P : A → Type 0) (x : Bool) (a b : A) → (x ≡ true → P a) → (x ≡ false → P b) → P (cond x a b)
-by-cond P true a b f g = f refl
-by-cond P false a b f g = g refl
-
 between-fair : (b : ℕ) (x y : Bool) → leb 97 b ≡ x → leb b 112 ≡ y → Fair (cond (cond x y false) (Letter (b - 97)) Bad)
 between-fair b true true p q = omega (arith, leb-true 97 b p, leb-true b 112 q)
 between-fair b true false p q = tt
 between-fair b false y p q = tt
 
-plain-fair : (b : ℕ) → Fair (plain b)
+plain-fair : (b : ℕ) → Fair (plainSign b)
 plain-fair b =
-    by-cond Fair (eqb b 40) _ _ (λ _. tt) (λ _. by-cond Fair (eqb b 41) _ _ (λ _. tt) (λ _. by-cond Fair (eqb b 91) _ _ (λ _. tt)
-    (λ _. by-cond Fair (eqb b 93) _ _ (λ _. tt) (λ _. by-cond Fair (eqb b 33) _ _ (λ _. tt) (λ _. by-cond Fair (eqb b 38) _ _ (λ _. tt)
-    (λ _. by-cond Fair (eqb b 124) _ _ (λ _. tt) (λ _. by-cond Fair (eqb b 69) _ _ (λ _. tt) (λ _. by-cond Fair (eqb b 65) _ _ (λ _. tt)
+    by-cond Fair (eqb b 40) _ _ (λ _. tt) (λ _. by-cond Fair (eqb b 41) _ _ (λ _. tt)
+    (λ _. by-cond Fair (eqb b 91) _ _ (λ _. tt)
+    (λ _. by-cond Fair (eqb b 93) _ _ (λ _. tt) (λ _. by-cond Fair (eqb b 33) _ _ (λ _. tt)
+    (λ _. by-cond Fair (eqb b 38) _ _ (λ _. tt)
+    (λ _. by-cond Fair (eqb b 124) _ _ (λ _. tt) (λ _. by-cond Fair (eqb b 69) _ _ (λ _. tt)
+    (λ _. by-cond Fair (eqb b 65) _ _ (λ _. tt)
     (λ _. between-fair b (leb 97 b) (leb b 112) refl refl)))))))))
 
 sign-fair : (b : ℕ) (bs : List ℕ) → Fair (sign b bs)

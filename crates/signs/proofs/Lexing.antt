@@ -2,7 +2,7 @@
 use mathlib.Core.Path.{_≡_, refl, sym, ap, subst, _∙_}
 use mathlib.Core.List.{List, [], _∷_}
 use mathlib.Core.Bool.{Bool, true, false, cond}
-use Prim.Native.Nat.{ℕ, zero, suc, _+_, _-_, _*_, _≤_, _<_, min}
+use Prim.Native.Nat.{ℕ, zero, suc, _+_, _-_, _*_, _≤_, _<_}
 use native.Mathlib.Omega.{arith}
 use borrow.Author.Tests.{le-leb, ne-eqb, eq-eqb, leb-true, eqb-true}
 use lib.Dec.{eqb, leb}
@@ -10,7 +10,9 @@ use lib.ListN.{length, getD, drop, take, length-drop}
 use Rattle.std.proofs.shelf.Lists.{take-rest}
 use Rattle.signs.specs.declared.Sign.{Sign}
 use Rattle.signs.specs.declared.Sign.the-variants.{Until, UntilAtMost, UntilAtLeast, Letter, Number, Bad}
-use Rattle.signs.specs.Signs.{digit, run, value, pair, sign, more, signsAfter, signs, told, cap}
+use Rattle.signs.specs.Signs.{between, digit, run, value, pair, zeroSign, plainSign, sign, more, signsAfter, signs}
+use Rattle.signs.specs.Signs.{told, cap}
+use Rattle.signs.proofs.Conds.{by-cond}
 use Rattle.signs.specs.First.{Begins, Told, Skipped, Takes}
 
 -- digits
@@ -59,6 +61,10 @@ pub no-digit : (v : ℕ) (text : List ℕ) → (1 ≤ length text → 48 ≤ get
 no-digit v [] n = (refl, refl)
 no-digit v (b ∷ bs) n = let d : digit b ≡ false = digit-no b (n (omega arith)) in (rw d, rw d)
 
+pub some-digit : (text : List ℕ) → 1 ≤ length text → 48 ≤ getD text 0 0 → getD text 0 0 ≤ 57 → 0 < run text
+some-digit [] l p q = absurd (omega arith)
+some-digit (b ∷ bs) l p q = let d : digit b ≡ true = digit-yes b p q in rw d (omega arith)
+
 -- the first sign of a text
 
 signs-drop : (k : ℕ) (bs : List ℕ) → signsAfter k bs ≡ signs (drop k bs)
@@ -101,17 +107,42 @@ taken {t0} {text} {rest} {s} b k p e h =
     let u = subst (λ c. Takes c (drop 1 text) s rest) (sym e) t in
     (sign (getD text 0 0) (drop 1 text), u .first, begins text k p (u .left))
 
-pub takes : {b : ℕ} {bs rest : List ℕ} {s : Sign} (t : Sign) (m : ℕ) → (sign b bs ≡ t) × (more b bs ≡ m)
-    → s ≡ told t → rest ≡ drop m bs → Takes b bs s rest
+pub takes : {b : ℕ} {bs rest : List ℕ} {s : Sign} (t : Sign) (m : ℕ) → (sign b bs ≡ t) × (more b bs ≡ m) → s ≡ told t
+    → rest ≡ drop m bs → Takes b bs s rest
 takes {bs = bs} t m p u v = record { first = u ∙ ap told (sym (p .0)); left = v ∙ ap (λ k. drop k bs) (sym (p .1)) }
 
--- a letter, and a byte that begins no sign
+pub zero-takes : {s : Sign} (bs : List ℕ) → s ≡ zeroSign bs → Takes 48 bs s bs
+unfolding sign more
+zero-takes bs e =
+    let same = by-cond (λ t. t ≡ told t) (eqb (run bs) 0) (Number 0) Bad (λ _. refl) (λ _. refl) in
+    record { first = e ∙ same; left = refl }
 
-letter-sign : (b : ℕ) (bs : List ℕ) → 97 ≤ b → b ≤ 112 → sign b bs ≡ Letter (b - 97)
-unfolding sign
-letter-sign b bs p q =
-    let e85 : eqb b 85 ≡ false = ne-eqb b 85 (λ h. omega arith) in
-    let e48 : eqb b 48 ≡ false = ne-eqb b 48 (λ h. omega arith) in
+-- a byte that begins no number and is no U
+
+plain-told : (b : ℕ) → plainSign b ≡ told (plainSign b)
+plain-told b =
+    let P : Sign → Type 0 = λ s. s ≡ told s in
+    by-cond P (eqb b 40) _ _ (λ _. refl) (λ _. by-cond P (eqb b 41) _ _ (λ _. refl) (λ _.
+    by-cond P (eqb b 91) _ _ (λ _. refl) (λ _. by-cond P (eqb b 93) _ _ (λ _. refl) (λ _.
+    by-cond P (eqb b 33) _ _ (λ _. refl) (λ _. by-cond P (eqb b 38) _ _ (λ _. refl) (λ _.
+    by-cond P (eqb b 124) _ _ (λ _. refl) (λ _. by-cond P (eqb b 69) _ _ (λ _. refl) (λ _.
+    by-cond P (eqb b 65) _ _ (λ _. refl) (λ _. by-cond P (between 97 112 b) _ _ (λ _. refl) (λ _. refl))))))))))
+
+plain-begins : (b : ℕ) (bs : List ℕ) → (48 ≤ b → b ≤ 57 → ⊥) → (b ≡ 85 → ⊥)
+    → (sign b bs ≡ plainSign b) × (more b bs ≡ 0)
+unfolding sign more
+plain-begins b bs n u =
+    let e85 : eqb b 85 ≡ false = ne-eqb b 85 u in
+    let e48 : eqb b 48 ≡ false = ne-eqb b 48 (λ h. n (omega arith) (omega arith)) in
+    let d : digit b ≡ false = digit-no b n in
+    (rw (e85, e48, d), rw (e85, e48, d))
+
+pub plain-takes : {s : Sign} (b : ℕ) (bs : List ℕ) → (48 ≤ b → b ≤ 57 → ⊥) → (b ≡ 85 → ⊥) → s ≡ plainSign b
+    → Takes b bs s bs
+plain-takes b bs n u e = takes (plainSign b) 0 (plain-begins b bs n u) (e ∙ plain-told b) refl
+
+plain-letter : (b : ℕ) → 97 ≤ b → b ≤ 112 → plainSign b ≡ Letter (b - 97)
+plain-letter b p q =
     let e40 : eqb b 40 ≡ false = ne-eqb b 40 (λ h. omega arith) in
     let e41 : eqb b 41 ≡ false = ne-eqb b 41 (λ h. omega arith) in
     let e91 : eqb b 91 ≡ false = ne-eqb b 91 (λ h. omega arith) in
@@ -121,48 +152,12 @@ letter-sign b bs p q =
     let e124 : eqb b 124 ≡ false = ne-eqb b 124 (λ h. omega arith) in
     let e69 : eqb b 69 ≡ false = ne-eqb b 69 (λ h. omega arith) in
     let e65 : eqb b 65 ≡ false = ne-eqb b 65 (λ h. omega arith) in
-    let d : digit b ≡ false = digit-no b (λ x y. omega arith) in
-    rw (e85, e48, d, e40, e41, e91, e93, e33, e38, e124, e69, e65, le-leb 97 b p, le-leb b 112 q)
-
-other-more : (b : ℕ) (bs : List ℕ) → (b ≡ 85 → ⊥) → digit b ≡ false → more b bs ≡ 0
-unfolding more
-other-more b bs u d =
-    let e85 : eqb b 85 ≡ false = ne-eqb b 85 u in
-    rw (e85, d) (either (eqb b 48))
-  where
-    either : (x : Bool) → _≡_ {A = ℕ} (cond x 0 0) 0
-    either true = refl
-    either false = refl
+    rw (e40, e41, e91, e93, e33, e38, e124, e69, e65, le-leb 97 b p, le-leb b 112 q)
 
 pub letter-begins : (b : ℕ) (bs : List ℕ) → 97 ≤ b → b ≤ 112 → (sign b bs ≡ Letter (b - 97)) × (more b bs ≡ 0)
 letter-begins b bs p q =
-    (letter-sign b bs p q, other-more b bs (λ e. omega arith) (digit-no b (λ x y. omega arith)))
-
-pub none-begins : (b : ℕ) (bs : List ℕ) → (48 ≤ b → b ≤ 57 → ⊥) → (b ≡ 85 → ⊥) → (b ≡ 40 → ⊥) → (b ≡ 41 → ⊥)
-    → (b ≡ 91 → ⊥) → (b ≡ 93 → ⊥) → (b ≡ 33 → ⊥) → (b ≡ 38 → ⊥) → (b ≡ 124 → ⊥) → (b ≡ 69 → ⊥) → (b ≡ 65 → ⊥)
-    → (97 ≤ b → b ≤ 112 → ⊥) → (sign b bs ≡ Bad) × (more b bs ≡ 0)
-unfolding sign
-none-begins b bs f n85 n40 n41 n91 n93 n33 n38 n124 n69 n65 n =
-    let d : digit b ≡ false = digit-no b f in
-    let e85 : eqb b 85 ≡ false = ne-eqb b 85 n85 in
-    let e48 : eqb b 48 ≡ false = ne-eqb b 48 (λ h. f (omega arith) (omega arith)) in
-    let e40 : eqb b 40 ≡ false = ne-eqb b 40 n40 in
-    let e41 : eqb b 41 ≡ false = ne-eqb b 41 n41 in
-    let e91 : eqb b 91 ≡ false = ne-eqb b 91 n91 in
-    let e93 : eqb b 93 ≡ false = ne-eqb b 93 n93 in
-    let e33 : eqb b 33 ≡ false = ne-eqb b 33 n33 in
-    let e38 : eqb b 38 ≡ false = ne-eqb b 38 n38 in
-    let e124 : eqb b 124 ≡ false = ne-eqb b 124 n124 in
-    let e69 : eqb b 69 ≡ false = ne-eqb b 69 n69 in
-    let e65 : eqb b 65 ≡ false = ne-eqb b 65 n65 in (
-      rw (e85, e48, d, e40, e41, e91, e93, e33, e38, e124, e69, e65) (go (leb 97 b) refl (leb b 112) refl),
-      other-more b bs n85 d,
-    )
-  where
-    go : (x : Bool) → leb 97 b ≡ x → (y : Bool) → leb b 112 ≡ y → cond (cond x y false) (Letter (b - 97)) Bad ≡ Bad
-    go true e true h = absurd (n (leb-true 97 b e) (leb-true b 112 h))
-    go true e false h = refl
-    go false e y h = refl
+    let k = plain-begins b bs (λ x y. omega arith) (λ e. omega arith) in
+    (k .0 ∙ plain-letter b p q, k .1)
 
 -- a number
 
@@ -182,20 +177,6 @@ number-found (b ∷ bs) n k p low high v r =
     let x = number-begins b bs low high in
     let m = r ∙ sym (run-more (b ∷ bs) p (omega arith) high) ∙ ap (λ i. drop i bs) (sym (x .1)) in
     (sign b bs, ap Number v ∙ ap told (sym (x .0)), begins (b ∷ bs) k p m)
-
-pub zero-bad : (bs : List ℕ) → 1 ≤ length bs → 48 ≤ getD bs 0 0 → getD bs 0 0 ≤ 57
-    → (sign 48 bs ≡ Bad) × (more 48 bs ≡ 0)
-unfolding sign more
-zero-bad [] l p q = absurd (omega arith)
-zero-bad (b ∷ bs) l p q =
-    let d : digit b ≡ true = digit-yes b p q in
-    let e : eqb (suc (run bs)) 0 ≡ false = ne-eqb (suc (run bs)) 0 (λ h. omega arith) in
-    (rw (d, e), refl)
-
-pub zero-good : (bs : List ℕ) → (1 ≤ length bs → 48 ≤ getD bs 0 0 → getD bs 0 0 ≤ 57 → ⊥)
-    → (sign 48 bs ≡ Number 0) × (more 48 bs ≡ 0)
-unfolding sign more
-zero-good bs n = let e = no-digit 0 bs n .1 in (rw e, refl)
 
 -- `U`, and what follows it
 

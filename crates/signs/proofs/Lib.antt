@@ -1,3 +1,4 @@
+pub mod Conds
 pub mod Lexing
 pub mod Told
 pub mod Letters

@@ -1,11 +1,12 @@
 -- A sign that is no number is told as it is, and a number that is told as a small one is that number.
-use mathlib.Core.Path.{_≡_, refl, sym, ap, subst, _∙_}
-use mathlib.Core.List.{List, [], _∷_}
-use Prim.Native.Nat.{ℕ, _≤_, _<_}
+use mathlib.Core.Path.{_≡_, refl, sym, subst, _∙_}
+use mathlib.Core.List.{List}
+use Prim.Native.Nat.{ℕ}
 use native.Mathlib.Omega.{arith}
 use Rattle.signs.specs.declared.Sign.{Sign}
-use Rattle.signs.specs.declared.Sign.the-variants.{Open, Close, OpenSquare, CloseSquare, Bang, Amp, Bar, Each, Until, UntilAtMost, UntilAtLeast, Letter, Number, Bad}
-use Rattle.signs.specs.Signs.{signs, told, cap}
+use Rattle.signs.specs.declared.Sign.the-variants.{Open, Close, OpenSquare, CloseSquare, Bang, Amp, Bar, Each, Until}
+use Rattle.signs.specs.declared.Sign.the-variants.{UntilAtMost, UntilAtLeast, Letter, Number, Bad}
+use Rattle.signs.specs.Signs.{told, cap}
 use Rattle.signs.specs.First.{Begins, Told}
 
 -- a sign that is no number
@@ -61,5 +62,7 @@ number-told n UntilAtLeast e = let z : _≡_ {A = ℕ} 0 1 = cc in absurd (omega
 number-told n (Letter k) e = let z : _≡_ {A = ℕ} 0 1 = cc in absurd (omega arith)
 number-told n Bad e = let z : _≡_ {A = ℕ} 0 1 = cc in absurd (omega arith)
 
-pub number-begins : {text rest : List ℕ} {s : Sign} {n : ℕ} → s ≡ Number n → Told text s rest → (m : ℕ) × (n ≡ cap m) × Begins text (Number m) rest
-number-begins {text} {rest} {s} {n} e (t, x, b) = let k = number-told n t (sym e ∙ x) in (k .0, k .2, subst (λ z. Begins text z rest) (k .1) b)
+pub number-begins : {text rest : List ℕ} {s : Sign} {n : ℕ} → s ≡ Number n → Told text s rest
+    → (m : ℕ) × (n ≡ cap m) × Begins text (Number m) rest
+number-begins {text} {rest} {s} {n} e (t, x, b) =
+    let k = number-told n t (sym e ∙ x) in (k .0, k .2, subst (λ z. Begins text z rest) (k .1) b)

@@ -1,12 +1,12 @@
 -- The signs of a text, as a function that computes.
-use mathlib.Core.Path.{_≡_}
-use mathlib.Core.Bool.{Bool, true, false, cond}
+use mathlib.Core.Bool.{Bool, false, cond}
 use mathlib.Core.List.{List, [], _∷_}
-use Prim.Native.Nat.{ℕ, zero, suc, _+_, _-_, _*_, _<_, min}
+use Prim.Native.Nat.{ℕ, zero, suc, _+_, _-_, _*_, min}
 use lib.Dec.{eqb, leb}
 use Rattle.rules.specs.declared.line.Quantifier.the-variants.{Some, All}
 use Rattle.signs.specs.declared.Sign.{Sign}
-use Rattle.signs.specs.declared.Sign.the-variants.{Open, Close, OpenSquare, CloseSquare, Bang, Amp, Bar, Each, Until, UntilAtMost, UntilAtLeast, Letter, Number, Bad}
+use Rattle.signs.specs.declared.Sign.the-variants.{Open, Close, OpenSquare, CloseSquare, Bang, Amp, Bar, Each, Until}
+use Rattle.signs.specs.declared.Sign.the-variants.{UntilAtMost, UntilAtLeast, Letter, Number, Bad}
 
 abbrev pub between : ℕ → ℕ → ℕ → Bool
 between low high b = cond (leb low b) (leb b high) false
@@ -31,8 +31,8 @@ pair x y (a ∷ []) = false
 pair x y (a ∷ b ∷ bs) = cond (eqb a x) (eqb b y) false
 
 -- The sign of one byte that is no digit and no U.
-abbrev pub plain : ℕ → Sign
-plain b =
+abbrev pub plainSign : ℕ → Sign
+plainSign b =
     cond (eqb b 40) Open
     (cond (eqb b 41) Close
     (cond (eqb b 91) OpenSquare
@@ -44,12 +44,15 @@ plain b =
     (cond (eqb b 65) (Each All)
     (cond (between 97 112 b) (Letter (b - 97)) Bad)))))))))
 
+-- The sign of a 0, which is bad before a digit.
+abbrev pub zeroSign : List ℕ → Sign
+zeroSign bs = cond (eqb (run bs) 0) (Number 0) Bad
+
 -- The first sign of a text that begins with b, no space, and how many bytes it takes besides b.
 unfoldable pub sign : ℕ → List ℕ → Sign
 sign b bs =
     cond (eqb b 85) (cond (pair 60 61 bs) UntilAtMost (cond (pair 62 61 bs) UntilAtLeast Until))
-    (cond (eqb b 48) (cond (eqb (run bs) 0) (Number 0) Bad)
-    (cond (digit b) (Number (value 0 (b ∷ bs))) (plain b)))
+    (cond (eqb b 48) (zeroSign bs) (cond (digit b) (Number (value 0 (b ∷ bs))) (plainSign b)))
 
 unfoldable pub more : ℕ → List ℕ → ℕ
 more b bs =

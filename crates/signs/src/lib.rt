@@ -1,8 +1,9 @@
 // Cuts the text of a rule into signs, one at a time. Any bytes may stand in a text: what begins no sign is a bad one.
 ghost use mathlib.Core.Path.{_≡_};
-ghost use Prim.Native.Nat.{ℕ};
+ghost use Prim.Native.Nat.{ℕ, _+_, _-_, _*_, _≤_, _<_};
+ghost use Rattle.std.specs.Orderings.{When};
 ghost use lib.ListN.{drop};
-ghost use Rattle.signs.specs.Signs.{run, value, cap};
+ghost use Rattle.signs.specs.Signs.{run, value, cap, zeroSign, plainSign};
 ghost use Rattle.signs.specs.First.{Skipped, Takes, First, After, FirstNumber};
 ghost use Rattle.signs.specs.Writing.{Signs-right};
 use rules::line::Quantifier;
@@ -44,6 +45,15 @@ fn skip_spaces(text: &[u8]) -> &[u8]
     text
 }
 
+// A number with one digit more.
+fn with_digit(value: u32, digit: u8) -> u32
+    requires small { ⌜ value ≤ 1000001 ⌝ }
+    requires decimal { ⌜ (48 ≤ digit) × (digit ≤ 57) ⌝ }
+    ensures { λ r. ⌜ r ≡ cap (value * 10 + (digit - 48)) ⌝ }
+{
+    (value * 10 + (digit - b'0') as u32).min(LARGEST + 1)
+}
+
 // The number that the digits at the front write, and what follows them.
 fn number(text: &[u8]) -> (u32, &[u8])
     ensures value { λ r. ⌜ r .0 ≡ cap (value 0 (now (text .entry))) ⌝ }
@@ -54,7 +64,7 @@ fn number(text: &[u8]) -> (u32, &[u8])
     while let [b, rest @ ..] = text {
         match *b as char {
             '0'..='9' => {
-                value = (value * 10 + (*b - b'0') as u32).min(LARGEST + 1);
+                value = with_digit(value, *b);
                 text = rest;
             }
             _ => break,
@@ -74,13 +84,42 @@ fn until_sign(rest: &[u8]) -> (Sign, &[u8])
     }
 }
 
-// The sign that begins with a `0`, and what follows it; `rest` is what follows the `0`.
-fn zero_sign(rest: &[u8]) -> (Sign, &[u8])
-    ensures { λ r. ⌜ Takes 48 (now (rest .entry)) (r .0) (now (r .1)) ⌝ }
+fn digit_first(text: &[u8]) -> bool
+    ensures { λ r. ⌜ When r (0 < run (now (text .entry))) (run (now (text .entry)) ≡ 0) ⌝ }
 {
-    match rest {
-        [b'0'..=b'9', ..] => (Sign::Bad, rest),
-        _ => (Sign::Number(0), rest),
+    match text {
+        [b'0'..=b'9', ..] => true,
+        _ => false,
+    }
+}
+
+// The sign of a `0`, which is bad before a digit.
+fn zero_sign(rest: &[u8]) -> Sign
+    ensures { λ r. ⌜ r ≡ zeroSign (now (rest .entry)) ⌝ }
+{
+    if digit_first(rest) {
+        Sign::Bad
+    } else {
+        Sign::Number(0)
+    }
+}
+
+// The sign of a byte that is no digit and no `U`.
+fn plain_sign(b: u8) -> Sign
+    ensures { λ r. ⌜ r ≡ plainSign b ⌝ }
+{
+    match b as char {
+        '(' => Sign::Open,
+        ')' => Sign::Close,
+        '[' => Sign::OpenSquare,
+        ']' => Sign::CloseSquare,
+        '!' => Sign::Bang,
+        '&' => Sign::Amp,
+        '|' => Sign::Bar,
+        'E' => Sign::Each(Quantifier::Some),
+        'A' => Sign::Each(Quantifier::All),
+        'a'..='p' => Sign::Letter(b - b'a'),
+        _ => Sign::Bad,
     }
 }
 
@@ -93,23 +132,13 @@ pub fn next_sign(text: &[u8]) -> Option<(Sign, &[u8])>
         return None;
     };
     match *b as char {
-        '(' => Some((Sign::Open, rest)),
-        ')' => Some((Sign::Close, rest)),
-        '[' => Some((Sign::OpenSquare, rest)),
-        ']' => Some((Sign::CloseSquare, rest)),
-        '!' => Some((Sign::Bang, rest)),
-        '&' => Some((Sign::Amp, rest)),
-        '|' => Some((Sign::Bar, rest)),
-        'E' => Some((Sign::Each(Quantifier::Some), rest)),
-        'A' => Some((Sign::Each(Quantifier::All), rest)),
         'U' => Some(until_sign(rest)),
-        'a'..='p' => Some((Sign::Letter(*b - b'a'), rest)),
-        '0' => Some(zero_sign(rest)),
+        '0' => Some((zero_sign(rest), rest)),
         '1'..='9' => {
             let (n, rest) = number(text);
             Some((Sign::Number(n), rest))
         }
-        _ => Some((Sign::Bad, rest)),
+        _ => Some((plain_sign(*b), rest)),
     }
 }
 

@@ -7,7 +7,8 @@ use Rattle.std.proofs.shelf.Lists.{take-rest}
 use Rattle.signs.specs.declared.Sign.the-variants.{Until, UntilAtMost, UntilAtLeast}
 use Rattle.signs.proofs.Lexing.{takes, pair-no, pair-yes, until-plain, until-most, until-least}
 use Rattle.signs.proofs.until_sign.Needs as need
-use Rattle.signs.proofs.until_sign.Needs.{in-rest·by·then-rest-lt2, in-rest·by·else-rest-lt2·in-60··in-rest·, in-rest·by·else-rest-lt2·in-62··in-rest·, in-rest·by·else-rest-lt2·in-rest·}
+use Rattle.signs.proofs.until_sign.Needs.{in-rest·by·then-rest-lt2, in-rest·by·else-rest-lt2·in-60··in-rest·}
+use Rattle.signs.proofs.until_sign.Needs.{in-rest·by·else-rest-lt2·in-62··in-rest·, in-rest·by·else-rest-lt2·in-rest·}
 
 pub returns-in-60 : need.returns-in-60
 returns-in-60 c =
