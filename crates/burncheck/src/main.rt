@@ -51,9 +51,10 @@ fn say(rt: &impl Eprint, summary: Summary) -> io::Result<()> {
         } => {
             let checked = rules.checked;
             let refused = rules.refused;
+            let total = checked.saturating_add(refused);
             eprintln!(
                 rt,
-                "{stages} stages, {moves} moves; {checked} rules checked, {refused} refused"
+                "stages {stages}, moves {moves}, rules {total}: {checked} checked, {refused} refused"
             )
         }
         Summary::Refused { fault } => match fault {

@@ -14,10 +14,9 @@ use Rattle.rules.specs.Postorder.{linesOf, Small, Large}
 use Rattle.tctl.specs.Rules.{Rule}
 use Rattle.reader.specs.declared.ReadFault.{ReadFault}
 use Rattle.reader.specs.declared.ReadFault.the-variants.{TooLong, NotARule, NumberTooLarge, TooManyLines}
-use Rattle.reader.specs.Parts.{tree-formula}
-use Rattle.reader.specs.Answer.{Reading}
+use Rattle.reader.specs.Grammar.{Reading}
 use Rattle.reader.specs.Answer as reader
-use Rattle.reader.proofs.Unique.{formula-same}
+use Rattle.reader.proofs.Readings.{one-reading}
 use Rattle.check.specs.declared.faults.CheckFault.{CheckFault}
 use Rattle.check.specs.declared.faults.CheckFault.the-variants.{Text, NoStage, DeadEnd, StillCycle, ShortMemory}
 use Rattle.check.specs.Outcomes.{Memory, Outcome}
@@ -34,18 +33,13 @@ of-lines p text was after (Err (DeadEnd s)) h = h
 of-lines p text was after (Err (StillCycle s)) h = h
 of-lines p text was after (Err ShortMemory) h = h
 
--- a text has one reading
-reading-once : (text : List ℕ) (f g : Rule) → Reading text f → Reading text g → f ≡ g
-reading-once text f g a b =
-    a .2 ∙ ap tree-formula (formula-same (a .0) (b .0) [] [] (sym (a .1) ∙ b .1) (tt, tt) (tt, tt) .0) ∙ sym (b .2)
-
 small-large : {A : Type 0} (ls : List Line) → Small ls → Large ls → A
 small-large ls small large = absurd (omega (arith, small (large .0) (large .1), large .2))
 
 module _ (text : List ℕ) where
   -- what is said of the lines of one reading holds of those of another
   same-lines : (X : List Line → Type 0) (f g : Rule) → Reading text f → Reading text g → X (linesOf f) → X (linesOf g)
-  same-lines X f g a b x = subst (λ (h : Rule). X (linesOf h)) (reading-once text f g a b) x
+  same-lines X f g a b x = subst (λ (h : Rule). X (linesOf h)) (one-reading text f g a b) x
 
   one-fault : (e d : ReadFault) → reader.Refused text e → reader.Refused text d → reader.faultNumber e
       ≡ reader.faultNumber d

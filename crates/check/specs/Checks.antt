@@ -9,7 +9,8 @@ use Rattle.program.specs.Meaning.{Prog}
 use Rattle.rules.specs.Lines.{mostLines}
 use Rattle.rules.specs.Postorder.{linesOf, Small}
 use Rattle.tctl.specs.Rules.{Rule}
-use Rattle.reader.specs.Answer.{longest, Reading}
+use Rattle.reader.specs.Grammar.{Reading}
+use Rattle.reader.specs.Answer.{longest}
 use Rattle.reader.specs.Answer as reader
 use Rattle.check.specs.declared.faults.CheckFault.{CheckFault}
 use Rattle.check.specs.declared.faults.CheckFault.the-variants.{Text, NoStage, DeadEnd, StillCycle, ShortMemory}

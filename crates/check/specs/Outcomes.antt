@@ -54,6 +54,10 @@ pub record Memory : Type 0 where
   pub shortest : List Shortest
   pub longest : List Longest
 
+abbrev pub memory : List ℕ → List Reach → List Shortest → List Longest → Memory
+memory sheet reached shortest longest =
+    record { sheet = sheet; reached = reached; shortest = shortest; longest = longest }
+
 -- A word a stage in the sheet, and four entries a stage in each table.
 abbrev pub Enough : ℕ → Memory → Type 0
 Enough n m =
@@ -72,7 +76,8 @@ Refused p was (DeadEnd s) = Dead-end p s
 Refused p was (StillCycle s) = All-onward p × (s < length (p .stages)) × Cycle p s
 Refused p was ShortMemory = Checkable p × (Enough (length (p .stages)) was → ⊥)
 
--- What a check that is made leaves: the sheet names exactly what holds, and four entries a stage are none in each table.
+-- What a check that is made leaves: the sheet names exactly what holds, and in each table four entries a stage are
+-- none.
 pub record Made (p : Prog) (lines : List Line) (was after : Memory) : Type 0 where
   pub names : Names p lines (was .sheet) (after .sheet)
   pub reached : Spent (reachAlgebra .none) (length (p .stages)) (was .reached) (after .reached)

@@ -6,7 +6,7 @@ ghost use Rattle.program.specs.Meaning.{mostStages};
 ghost use Rattle.rules.specs.Lines.{mostLines, Well-formed};
 ghost use Rattle.tally.specs.Rounds.{Within};
 ghost use Rattle.sheet.specs.Rows.{prog};
-ghost use Rattle.check.specs.Outcomes.{Outcome};
+ghost use Rattle.check.specs.Outcomes.{memory, Outcome};
 ghost use Rattle.check.specs.Found.{enough?};
 use crate::faults::CheckFault;
 use crate::tests::dead_end;
@@ -31,12 +31,8 @@ fn has_room(
     longest: &[Longest],
 ) -> bool
     requires { ⌜ n ≤ mostStages ⌝ }
-    ensures { λ r. ⌜ r ≡ enough? n (record {
-      sheet = now (sheet .entry);
-      reached = now (reached .entry);
-      shortest = now (shortest .entry);
-      longest = now (longest .entry);
-    }) ⌝ }
+    ensures { λ r. ⌜ r ≡ enough? n (memory (now (sheet .entry)) (now (reached .entry)) (now (shortest .entry))
+        (now (longest .entry))) ⌝ }
 {
     n <= sheet.len() && 4 * n <= reached.len() && 4 * n <= shortest.len() && 4 * n <= longest.len()
 }
@@ -56,18 +52,8 @@ pub fn check_rows(
     requires lines { ⌜ length (now lines) ≤ mostLines ⌝ }
     requires formed { ⌜ Well-formed (now lines) ⌝ }
     ensures { λ r. ⌜ Outcome (prog (now (stages .entry)) (now (moves .entry))) (now (lines .entry))
-        (record {
-          sheet = now (sheet .entry);
-          reached = now (reached .entry);
-          shortest = now (shortest .entry);
-          longest = now (longest .entry);
-        })
-        (record {
-          sheet = now (sheet .exit);
-          reached = now (reached .exit);
-          shortest = now (shortest .exit);
-          longest = now (longest .exit);
-        }) r ⌝ }
+        (memory (now (sheet .entry)) (now (reached .entry)) (now (shortest .entry)) (now (longest .entry)))
+        (memory (now (sheet .exit)) (now (reached .exit)) (now (shortest .exit)) (now (longest .exit))) r ⌝ }
 {
     let n = stages.len();
     if n == 0 {

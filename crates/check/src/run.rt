@@ -3,7 +3,7 @@ ghost use mathlib.Core.Path.{_≡_};
 ghost use Prim.Native.Nat.{_≤_};
 ghost use lib.ListN.{length, take};
 ghost use Rattle.rules.specs.Lines.{mostLines, Well-formed};
-ghost use Rattle.check.specs.Outcomes.{Outcome};
+ghost use Rattle.check.specs.Outcomes.{memory, Outcome};
 ghost use Rattle.check.specs.Checks.{Check};
 use crate::faults::CheckFault;
 use crate::rows::check_rows;
@@ -46,18 +46,8 @@ pub fn check_lines_of<P: Program>(
     requires lines { ⌜ length (now lines) ≤ mostLines ⌝ }
     requires formed { ⌜ Well-formed (now lines) ⌝ }
     ensures { λ r. ⌜ Outcome (P·Program .meaning (now (program .entry))) (now (lines .entry))
-        (record {
-          sheet = now (sheet .entry);
-          reached = now (reached .entry);
-          shortest = now (shortest .entry);
-          longest = now (longest .entry);
-        })
-        (record {
-          sheet = now (sheet .exit);
-          reached = now (reached .exit);
-          shortest = now (shortest .exit);
-          longest = now (longest .exit);
-        }) r ⌝ }
+        (memory (now (sheet .entry)) (now (reached .entry)) (now (shortest .entry)) (now (longest .entry)))
+        (memory (now (sheet .exit)) (now (reached .exit)) (now (shortest .exit)) (now (longest .exit))) r ⌝ }
 {
     let mut stages = [NO_STAGE; MOST_STAGES];
     copy_stages(program, &mut stages);
@@ -84,18 +74,8 @@ pub fn check<P: Program>(
     longest: &mut [Longest],
 ) -> Result<usize, CheckFault>
     ensures { λ r. ⌜ Check (P·Program .meaning (now (program .entry))) (now (text .entry))
-        (record {
-          sheet = now (sheet .entry);
-          reached = now (reached .entry);
-          shortest = now (shortest .entry);
-          longest = now (longest .entry);
-        })
-        (record {
-          sheet = now (sheet .exit);
-          reached = now (reached .exit);
-          shortest = now (shortest .exit);
-          longest = now (longest .exit);
-        }) r ⌝ }
+        (memory (now (sheet .entry)) (now (reached .entry)) (now (shortest .entry)) (now (longest .entry)))
+        (memory (now (sheet .exit)) (now (reached .exit)) (now (shortest .exit)) (now (longest .exit))) r ⌝ }
 {
     match read(text) {
         Ok(rule) => check_lines_of(program, rule.lines(), sheet, reached, shortest, longest),

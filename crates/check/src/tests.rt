@@ -1,5 +1,5 @@
-// What a program has to have, so that rules can be checked on it: each stage a move out, and no cycle of moves that take
-// no time.
+// What a program has to have, so that rules can be checked on it: each stage a move out, and no cycle of moves that
+// take no time.
 ghost use mathlib.Core.Path.{_≡_};
 ghost use Prim.Native.Nat.{_≤_, _<_};
 ghost use lib.ListN.{length};

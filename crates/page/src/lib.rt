@@ -15,6 +15,7 @@ use crate::pages::answer_over;
 use std::alloc::AllocError;
 use std::alloc::Global;
 use stores::tray::Tray;
+use stores::tray::areas::Areas;
 use stores::tray::edits::TrayProgram;
 use stores::tray::edits::TrayStore;
 
@@ -28,8 +29,9 @@ pub fn answer(heap: Global, page: &[u8], out: &mut Vec<u8>) -> Result<Summary, A
     ensures { λ r. ⌜ made r (λ summary. AddsPage fullRoom empty (now (page .entry))
         (vec-items (now (out .entry))) (vec-items (now (out .exit))) summary) ⌝ }
 {
-    let mut stages = vec![in heap; 0u8; STAGE_AREA]?;
-    let mut moves = vec![in heap; 0u8; MOVE_AREA]?;
-    let mut tray = Tray::new(&mut stages, &mut moves);
+    let stages = vec![in heap; 0u8; STAGE_AREA]?;
+    let moves = vec![in heap; 0u8; MOVE_AREA]?;
+    let mut areas = Areas { stages, moves };
+    let mut tray = Tray::new(&mut areas);
     answer_over(&mut tray, page, out)
 }

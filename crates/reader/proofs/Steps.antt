@@ -51,16 +51,16 @@ head-same ss us e = cc
 
 -- items
 
-snoc-item : Items → Item → Items
+pub snoc-item : Items → Item → Items
 snoc-item no-item j = amp j no-item
 snoc-item (amp i is) j = amp i (snoc-item is j)
 
-spell-snoc-item : (is : Items) (j : Item) (ss : List Sign) → spell-items (snoc-item is j) ss ≡ spell-items is (Amp ∷ spell-item j ss)
+pub spell-snoc-item : (is : Items) (j : Item) (ss : List Sign) → spell-items (snoc-item is j) ss ≡ spell-items is (Amp ∷ spell-item j ss)
 unfolding spell-formula snoc-item
 spell-snoc-item no-item j ss = refl
 spell-snoc-item (amp i is) j ss = ap (λ us. Amp ∷ spell-item i us) (spell-snoc-item is j ss)
 
-tree-snoc-item : (is : Items) (j : Item) (f : Rule) → tree-items (snoc-item is j) f ≡ tree.both (tree-items is f) (tree-item j)
+pub tree-snoc-item : (is : Items) (j : Item) (f : Rule) → tree-items (snoc-item is j) f ≡ tree.both (tree-items is f) (tree-item j)
 unfolding tree-formula snoc-item
 tree-snoc-item no-item j f = refl
 tree-snoc-item (amp i is) j f = tree-snoc-item is j (tree.both f (tree-item i))
@@ -75,16 +75,16 @@ items-on (amp i is) (amp j js) vs ss e n = items-on is js vs ss (item-same i j _
 
 -- terms
 
-snoc-term : Terms → Term → Terms
+pub snoc-term : Terms → Term → Terms
 snoc-term no-term u = bar u no-term
 snoc-term (bar t ts) u = bar t (snoc-term ts u)
 
-spell-snoc-term : (ts : Terms) (u : Term) (ss : List Sign) → spell-terms (snoc-term ts u) ss ≡ spell-terms ts (Bar ∷ spell-term u ss)
+pub spell-snoc-term : (ts : Terms) (u : Term) (ss : List Sign) → spell-terms (snoc-term ts u) ss ≡ spell-terms ts (Bar ∷ spell-term u ss)
 unfolding spell-formula snoc-term
 spell-snoc-term no-term u ss = refl
 spell-snoc-term (bar t ts) u ss = ap (λ us. Bar ∷ spell-term t us) (spell-snoc-term ts u ss)
 
-tree-snoc-term : (ts : Terms) (u : Term) (f : Rule) → tree-terms (snoc-term ts u) f ≡ tree.either (tree-terms ts f) (tree-term u)
+pub tree-snoc-term : (ts : Terms) (u : Term) (f : Rule) → tree-terms (snoc-term ts u) f ≡ tree.either (tree-terms ts f) (tree-term u)
 unfolding tree-formula snoc-term
 tree-snoc-term no-term u f = refl
 tree-snoc-term (bar t ts) u f = tree-snoc-term ts u (tree.either f (tree-term t))

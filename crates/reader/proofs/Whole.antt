@@ -17,8 +17,9 @@ use Rattle.reader.specs.declared.draft.Draft.{Draft}
 use Rattle.reader.specs.Drafts.{Drawn}
 use Rattle.reader.specs.Parts.{spell-formula, tree-formula}
 use Rattle.reader.specs.Reads.{Took, No-joint}
-use Rattle.reader.specs.Answer.{Reading}
+use Rattle.reader.specs.Grammar.{Reading}
 use Rattle.reader.proofs.Letters.{formula-lettered}
+use Rattle.reader.proofs.Readings.{reading-from}
 
 pub record Whole (text : List ℕ) (d : Draft) : Type 0 where
   pub rule : tree.Rule
@@ -31,7 +32,7 @@ whole {text} h w n =
     let e = h .splits ∙ ap (spell-formula (h .part)) n in
     record {
       rule = tree-formula (h .part);
-      reading = (h .part, e, refl);
+      reading = reading-from text (h .part) e;
       drawn = h .adds [] w;
       lettered = formula-lettered (h .part) [] (subst (All Fair) e (signs-fair text)) .0;
     }

@@ -9,10 +9,9 @@ use Rattle.tctl.specs.Rules as tree
 use Rattle.rules.specs.declared.rule.Rule.{Rule}
 use Rattle.rules.specs.Lines.{mostLines}
 use Rattle.rules.specs.Postorder.{linesOf, Small, Large}
-use Rattle.signs.specs.Signs.{signs}
 use Rattle.reader.specs.declared.ReadFault.{ReadFault}
 use Rattle.reader.specs.declared.ReadFault.the-variants.{TooLong, NotARule, NumberTooLarge, TooManyLines}
-use Rattle.reader.specs.Parts.{Formula, spell-formula, tree-formula}
+use Rattle.reader.specs.Grammar.{Reading}
 
 -- The most bytes of a text.
 abbrev pub longest : ℕ
@@ -23,10 +22,6 @@ faultNumber TooLong = 8
 faultNumber NotARule = 9
 faultNumber NumberTooLarge = 10
 faultNumber TooManyLines = 11
-
--- The text is read as the rule f.
-abbrev pub Reading : List ℕ → tree.Rule → Type 0
-Reading text f = (p : Formula) × (signs text ≡ spell-formula p []) × (f ≡ tree-formula p)
 
 -- The text is refused: the first fault that fits.
 abbrev pub Refused : List ℕ → ReadFault → Type 0
@@ -48,3 +43,18 @@ pub record Accepted (text : List ℕ) (r : Rule) : Type 0 where
 abbrev pub Answers : List ℕ → Result Rule ReadFault → Type 0
 Answers text (Ok r) = Accepted text r
 Answers text (Err e) = Refused text e
+
+-- A text has at most one reading.
+abbrev pub One-reading : Type 0
+One-reading = (text : List ℕ) (f g : tree.Rule) → Reading text f → Reading text g → f ≡ g
+
+-- The same answer: the same lines, or the same fault.
+abbrev pub Same : Result Rule ReadFault → Result Rule ReadFault → Type 0
+Same (Ok r) (Ok s) = take (r .count) (r .lines) ≡ take (s .count) (s .lines)
+Same (Ok r) (Err e) = ⊥
+Same (Err e) (Ok r) = ⊥
+Same (Err d) (Err e) = d ≡ e
+
+-- A text has one answer.
+abbrev pub One-answer : Type 0
+One-answer = (text : List ℕ) (r s : Result Rule ReadFault) → Answers text r → Answers text s → Same r s

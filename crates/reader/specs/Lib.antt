@@ -1,3 +1,4 @@
+pub mod Grammar
 pub mod Parts
 pub mod Drafts
 pub mod Reads

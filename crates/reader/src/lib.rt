@@ -1,7 +1,7 @@
 // Reads the text of a rule into its lines, or says why it is none. Rests on the signs of a text (`signs`) and on the
 // lines of a rule (`rules`).
 ghost use mathlib.Core.Path.{_≡_};
-ghost use Rattle.reader.specs.Answer.{faultNumber, Answers};
+ghost use Rattle.reader.specs.Answer.{faultNumber, Answers, One-reading, One-answer};
 
 mod draft;
 mod noting;
@@ -65,3 +65,13 @@ pub fn read(text: &[u8]) -> Result<Rule, ReadFault>
         count: draft.count,
     })
 }
+
+// A text has at most one reading.
+pub fn one_reading()
+    ensures { λ _. ⌜ One-reading ⌝ }
+{}
+
+// A text has one answer: what `read` promises leaves no choice.
+pub fn one_answer()
+    ensures { λ _. ⌜ One-answer ⌝ }
+{}

@@ -1,4 +1,5 @@
 -- The lines of a rule: the nodes of its tree, each after its left part and its right part.
+use mathlib.Core.Path.{_≡_}
 use mathlib.Core.List.{List, [], _∷_, _++_}
 use Prim.Native.Nat.{ℕ, _-_, _≤_, _<_}
 use lib.ListN.{length, getD}
@@ -9,7 +10,7 @@ use Rattle.rules.specs.declared.line.Bound.{Bound}
 use Rattle.rules.specs.declared.line.Bound.the-variants.{AtMost, AtLeast}
 use Rattle.rules.specs.declared.line.Line.{Line}
 use Rattle.rules.specs.declared.line.Line.the-variants.{One, Letter, Not, And, Or, Until}
-use Rattle.rules.specs.Lines.{boundNumber, largestNumber}
+use Rattle.rules.specs.Lines.{boundNumber, largestNumber, ruleAt}
 
 abbrev pub boundLine : tree.Bound → Bound
 boundLine (most c) = AtMost c
@@ -64,3 +65,16 @@ Small ls = (k : ℕ) → k < length ls → lineNumber (getD ls k One) ≤ larges
 
 abbrev pub Large : List Line → Type 0
 Large ls = (k : ℕ) × (k < length ls) × (largestNumber < lineNumber (getD ls k One))
+
+-- The lines of a rule stand for its parts, one for each, and the last line for the rule itself.
+pub record Stand (f : Rule) : Type 0 where
+  pub count : length (linesOf f) ≡ length (partsOf f)
+  pub each : (k : ℕ) → ruleAt (linesOf f) k ≡ getD (partsOf f) k one
+  pub whole : ruleAt (linesOf f) (last (linesOf f)) ≡ f
+
+abbrev pub Lines-stand : Type 0
+Lines-stand = (f : Rule) → Stand f
+
+-- Equal lines are those of one rule.
+abbrev pub Lines-tell : Type 0
+Lines-tell = (f g : Rule) → linesOf f ≡ linesOf g → f ≡ g

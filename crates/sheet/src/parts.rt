@@ -42,7 +42,8 @@ fn counts(sort: Sort, m: Move) -> bool
 fn mark_one(sort: Sort, m: Move, set: &[u32], has: &mut [u32])
     requires { ⌜ m .leaves < length (now has) ⌝ ∗ ⌜ m .enters < length (now set) ⌝ }
     ensures marked { λ _. ⌜ among (now (has .exit)) (m .leaves)
-        ≡ either (among (now (has .entry)) (m .leaves)) (both (sortOf sort (timedMove m)) (among (now (set .entry)) (m .enters))) ⌝ }
+        ≡ either (among (now (has .entry)) (m .leaves))
+        (both (sortOf sort (timedMove m)) (among (now (set .entry)) (m .enters))) ⌝ }
     ensures others { λ _. ⌜ ((i : ℕ) → (i ≡ m .leaves → ⊥) → getD (now (has .exit)) i 0 ≡ getD (now (has .entry)) i
         0) ⌝ }
 {
@@ -94,7 +95,8 @@ fn shrink(sort: Sort, stages: &[Stage], moves: &[Move], set: &mut [u32], has: &m
     requires set { ⌜ length (now stages) ≤ length (now set) ⌝ }
     requires has { ⌜ length (now stages) ≤ length (now has) ⌝ }
     ensures left { λ _. ⌜ row (length (now (stages .entry))) (now (set .exit))
-        ≡ shrunk (graphOf (now (stages .entry)) (now (moves .entry))) (sortOf sort) (row (length (now (stages .entry))) (now (set .entry))) ⌝ }
+        ≡ shrunk (graphOf (now (stages .entry)) (now (moves .entry))) (sortOf sort)
+        (row (length (now (stages .entry))) (now (set .entry))) ⌝ }
     ensures above { λ _. ⌜ Rest-kept (length (now (stages .entry))) (now (set .entry)) (now (set .exit)) ⌝ }
     ensures told { λ r. ⌜ (r ≡ true → row (length (now (stages .entry))) (now (set .entry))
         ≡ row (length (now (stages .entry))) (now (set .exit))) ⌝ }

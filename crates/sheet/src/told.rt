@@ -93,7 +93,8 @@ pub fn tell<T: Told>(
     requires room { ⌜ 4 * n ≤ length (now entries) ⌝ }
     requires out { ⌜ n ≤ length (now out) ⌝ }
     ensures is { λ _. ⌜ Says n (now (out .exit)) (λ s. T·Told .tells minutes
-        (tallied (T·Tally .algebra) (now (moves .entry)) (among (now (pass .entry))) (among (now (goals .entry))) n s)) ⌝ }
+        (tallied (T·Tally .algebra) (now (moves .entry)) (among (now (pass .entry)))
+        (among (now (goals .entry))) n s)) ⌝ }
     ensures above { λ _. ⌜ Rest-kept n (now (out .entry)) (now (out .exit)) ⌝ }
     ensures spent { λ _. ⌜ Spent (T·Tally .algebra .none) n (now (entries .entry)) (now (entries .exit)) ⌝ }
 {

@@ -1,5 +1,5 @@
-// The four untils, each from the rows of where its parts hold. Open: not silent; a stage may be passed if it is silent, or
-// if the left part holds there.
+// The four untils, each from the rows of where its parts hold. Open: not silent; a stage may be passed if it is silent,
+// or if the left part holds there.
 ghost use Prim.Native.Nat.{_-_, _*_, _≤_};
 ghost use lib.Dec.{leb};
 ghost use lib.ListN.{length};

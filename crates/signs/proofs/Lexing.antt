@@ -1,24 +1,19 @@
 -- How the bytes of a text become signs.
 use mathlib.Core.Path.{_≡_, refl, sym, ap, subst, _∙_}
-use mathlib.Core.Logic.{_⊎_, inl, inr}
 use mathlib.Core.List.{List, [], _∷_}
 use mathlib.Core.Bool.{Bool, true, false, cond}
 use Prim.Native.Nat.{ℕ, zero, suc, _+_, _-_, _*_, _≤_, _<_, min}
 use native.Mathlib.Omega.{arith}
-use borrow.Author.Tests.{le-leb, lt-leb, ne-eqb, eq-eqb, leb-true, eqb-true, both-ways}
+use borrow.Author.Tests.{le-leb, ne-eqb, eq-eqb, leb-true, eqb-true}
 use lib.Dec.{eqb, leb}
 use lib.ListN.{length, getD, drop, take, length-drop}
 use Rattle.std.proofs.shelf.Lists.{take-rest}
 use Rattle.signs.specs.declared.Sign.{Sign}
-use Rattle.signs.specs.declared.Sign.the-variants.{Open, Close, OpenSquare, CloseSquare, Bang, Amp, Bar, Each, Until, UntilAtMost, UntilAtLeast, Letter, Number, Bad}
-use Rattle.signs.specs.Signs.{between, digit, run, value, pair, plain, sign, more, signsAfter, signs, told, cap}
-use Rattle.signs.specs.First.{Begins, Told, NoSpace, Skipped}
+use Rattle.signs.specs.declared.Sign.the-variants.{Until, UntilAtMost, UntilAtLeast, Letter, Number, Bad}
+use Rattle.signs.specs.Signs.{digit, run, value, pair, sign, more, signsAfter, signs, told, cap}
+use Rattle.signs.specs.First.{Begins, Told, Skipped, Takes}
 
-pub signs-drop : (k : ℕ) (bs : List ℕ) → signsAfter k bs ≡ signs (drop k bs)
-unfolding signsAfter
-signs-drop k [] = elim k as (λ n. signsAfter n [] ≡ signs (drop n [])) [ zero ↦ refl | suc n ↦ refl ]
-signs-drop zero (b ∷ bs) = refl
-signs-drop (suc k) (b ∷ bs) = signs-drop k bs
+-- digits
 
 pub digit-yes : (b : ℕ) → 48 ≤ b → b ≤ 57 → digit b ≡ true
 digit-yes b p q = rw (le-leb 48 b p, le-leb b 57 q)
@@ -31,35 +26,88 @@ digit-no b n = go (leb 48 b) refl (leb b 57) refl
     go true e false h = refl
     go false e y h = refl
 
+cap-ten : (v d : ℕ) → cap (cap v * 10 + d) ≡ cap (v * 10 + d)
+cap-ten v d = omega arith
+
+-- a number that is cut on the way is cut at the end
+value-capped : (v : ℕ) (bs : List ℕ) → cap (value (cap v) bs) ≡ cap (value v bs)
+value-capped v [] = omega arith
+value-capped v (b ∷ bs) =
+    let d = b - 48 in
+    go (digit b)
+    (sym (value-capped (cap v * 10 + d) bs) ∙ ap (λ x. cap (value x bs)) (cap-ten v d) ∙ value-capped (v * 10 + d) bs)
+  where
+    go : (t : Bool) → cap (value (cap v * 10 + (b - 48)) bs) ≡ cap (value (v * 10 + (b - 48)) bs)
+        → cap (cond t (value (cap v * 10 + (b - 48)) bs) (cap v)) ≡ cap (cond t (value (v * 10 + (b - 48)) bs) v)
+    go true h = h
+    go false h = omega arith
+
+-- one digit more in front
+pub value-more : (v : ℕ) (text : List ℕ) → 1 ≤ length text → 48 ≤ getD text 0 0 → getD text 0 0 ≤ 57
+    → cap (value (cap (v * 10 + (getD text 0 0 - 48))) (drop 1 text)) ≡ cap (value v text)
+value-more v [] p l h = absurd (omega arith)
+value-more v (b ∷ bs) p l h =
+    let d : digit b ≡ true = digit-yes b l h in rw d (value-capped (v * 10 + (b - 48)) bs)
+
+pub run-more : (text : List ℕ) → 1 ≤ length text → 48 ≤ getD text 0 0 → getD text 0 0 ≤ 57
+    → drop (run (drop 1 text)) (drop 1 text) ≡ drop (run text) text
+run-more [] p l h = absurd (omega arith)
+run-more (b ∷ bs) p l h = let d : digit b ≡ true = digit-yes b l h in rw d
+
+pub no-digit : (v : ℕ) (text : List ℕ) → (1 ≤ length text → 48 ≤ getD text 0 0 → getD text 0 0 ≤ 57 → ⊥)
+    → (value v text ≡ v) × (run text ≡ 0)
+no-digit v [] n = (refl, refl)
+no-digit v (b ∷ bs) n = let d : digit b ≡ false = digit-no b (n (omega arith)) in (rw d, rw d)
+
+-- the first sign of a text
+
+signs-drop : (k : ℕ) (bs : List ℕ) → signsAfter k bs ≡ signs (drop k bs)
+unfolding signsAfter
+signs-drop k [] = elim k as (λ n. signsAfter n [] ≡ signs (drop n [])) [ zero ↦ refl | suc n ↦ refl ]
+signs-drop zero (b ∷ bs) = refl
+signs-drop (suc k) (b ∷ bs) = signs-drop k bs
+
 pub first-byte : (b : ℕ) (bs : List ℕ) → (b ≡ 32 → ⊥) → signs (b ∷ bs) ≡ sign b bs ∷ signs (drop (more b bs) bs)
 unfolding signsAfter
-first-byte b bs n = let e : eqb b 32 ≡ false = ne-eqb b 32 n in rw e (ap (λ us. sign b bs ∷ us) (signs-drop (more b bs) bs))
+first-byte b bs n =
+    let e : eqb b 32 ≡ false = ne-eqb b 32 n in rw e (ap (λ us. sign b bs ∷ us) (signs-drop (more b bs) bs))
 
-pub space-byte : (text : List ℕ) → 1 ≤ length text → getD text 0 0 ≡ 32 → signs (take (length text - 1) (drop 1 text)) ≡ signs text
+pub space-byte : (text : List ℕ) → 1 ≤ length text → getD text 0 0 ≡ 32
+    → signs (take (length text - 1) (drop 1 text)) ≡ signs text
 unfolding signsAfter
 space-byte [] p e = absurd (omega arith)
 space-byte (b ∷ bs) p e = let h : eqb b 32 ≡ true = eq-eqb b 32 e in ap signs (take-rest (b ∷ bs) 1) ∙ rw h
 
-begins : {t0 rest : List ℕ} (text : List ℕ) (t : Sign) (m : ℕ) → Skipped t0 text → 1 ≤ length text → sign (getD text 0 0) (drop 1 text) ≡ t →
-    more (getD text 0 0) (drop 1 text) ≡ m → rest ≡ drop m (drop 1 text) → Begins t0 t rest
-begins [] t m k p x y r = absurd (omega arith)
-begins (b ∷ bs) t m k p x y r =
+pub empty-signs : (text : List ℕ) → length text < 1 → signs text ≡ []
+unfolding signsAfter
+empty-signs [] l = refl
+empty-signs (b ∷ bs) l = absurd (omega arith)
+
+begins : {t0 rest : List ℕ} (text : List ℕ) → Skipped t0 text → 1 ≤ length text
+    → rest ≡ drop (more (getD text 0 0) (drop 1 text)) (drop 1 text)
+    → Begins t0 (sign (getD text 0 0) (drop 1 text)) rest
+begins [] k p r = absurd (omega arith)
+begins (b ∷ bs) k p r =
     record {
-      splits = sym (k .same) ∙ first-byte b bs (k .stops) ∙ ap (λ z. z ∷ signs (drop (more b bs) bs)) x ∙ ap (λ n. t ∷ signs (drop n bs)) y ∙ ap (λ us. t ∷ signs us) (sym r);
-      shorter = omega (arith, ap length r, length-drop m bs, k .shorter);
+      splits = sym (k .same) ∙ first-byte b bs (k .stops) ∙ ap (λ us. sign b bs ∷ signs us) (sym r);
+      shorter = omega (arith, ap length r, length-drop (more b bs) bs, k .shorter);
     }
 
-module _ {t0 : List ℕ} (text : List ℕ) (k : Skipped t0 text) (p : 1 ≤ length text) where
-  pub found : {rest : List ℕ} (s t : Sign) (m : ℕ) → sign (getD text 0 0) (drop 1 text) ≡ t → more (getD text 0 0) (drop 1 text) ≡ m →
-      rest ≡ drop m (drop 1 text) → s ≡ told t → Told t0 s rest
-  found s t m x y r e = (t, e, begins text t m k p x y r)
+-- the sign that begins with the first byte b of what is left after the spaces, and what follows it
+pub taken : {t0 text rest : List ℕ} {s : Sign} (b : ℕ) → Skipped t0 text → 1 ≤ length text → getD text 0 0 ≡ b
+    → Takes b (take (length text - 1) (drop 1 text)) s rest → Told t0 s rest
+taken {t0} {text} {rest} {s} b k p e h =
+    let t = subst (λ bs. Takes b bs s rest) (take-rest text 1) h in
+    let u = subst (λ c. Takes c (drop 1 text) s rest) (sym e) t in
+    (sign (getD text 0 0) (drop 1 text), u .first, begins text k p (u .left))
 
-  pub byte-found : (b : ℕ) (s : Sign) → getD text 0 0 ≡ b → sign b (drop 1 text) ≡ s → more b (drop 1 text) ≡ 0 → s ≡ told s →
-      Told t0 s (take (length text - 1) (drop 1 text))
-  byte-found b s e x y t =
-      found s s 0 (ap (λ z. sign z (drop 1 text)) e ∙ x) (ap (λ z. more z (drop 1 text)) e ∙ y) (take-rest text 1) t
+pub takes : {b : ℕ} {bs rest : List ℕ} {s : Sign} (t : Sign) (m : ℕ) → (sign b bs ≡ t) × (more b bs ≡ m)
+    → s ≡ told t → rest ≡ drop m bs → Takes b bs s rest
+takes {bs = bs} t m p u v = record { first = u ∙ ap told (sym (p .0)); left = v ∙ ap (λ k. drop k bs) (sym (p .1)) }
 
-pub letter-sign : (b : ℕ) (bs : List ℕ) → 97 ≤ b → b ≤ 112 → sign b bs ≡ Letter (b - 97)
+-- a letter, and a byte that begins no sign
+
+letter-sign : (b : ℕ) (bs : List ℕ) → 97 ≤ b → b ≤ 112 → sign b bs ≡ Letter (b - 97)
 unfolding sign
 letter-sign b bs p q =
     let e85 : eqb b 85 ≡ false = ne-eqb b 85 (λ h. omega arith) in
@@ -76,7 +124,7 @@ letter-sign b bs p q =
     let d : digit b ≡ false = digit-no b (λ x y. omega arith) in
     rw (e85, e48, d, e40, e41, e91, e93, e33, e38, e124, e69, e65, le-leb 97 b p, le-leb b 112 q)
 
-pub other-more : (b : ℕ) (bs : List ℕ) → (b ≡ 85 → ⊥) → digit b ≡ false → more b bs ≡ 0
+other-more : (b : ℕ) (bs : List ℕ) → (b ≡ 85 → ⊥) → digit b ≡ false → more b bs ≡ 0
 unfolding more
 other-more b bs u d =
     let e85 : eqb b 85 ≡ false = ne-eqb b 85 u in
@@ -86,75 +134,18 @@ other-more b bs u d =
     either true = refl
     either false = refl
 
-pub number-sign : (b : ℕ) (bs : List ℕ) → 49 ≤ b → b ≤ 57 → (sign b bs ≡ Number (value 0 (b ∷ bs))) × (more b bs ≡ run bs)
-unfolding sign more
-number-sign b bs p q =
-    let e85 : eqb b 85 ≡ false = ne-eqb b 85 (λ h. omega arith) in
-    let e48 : eqb b 48 ≡ false = ne-eqb b 48 (λ h. omega arith) in
-    let d : digit b ≡ true = digit-yes b (omega arith) q in
-    (rw (e85, e48, d), rw (e85, e48, d))
+pub letter-begins : (b : ℕ) (bs : List ℕ) → 97 ≤ b → b ≤ 112 → (sign b bs ≡ Letter (b - 97)) × (more b bs ≡ 0)
+letter-begins b bs p q =
+    (letter-sign b bs p q, other-more b bs (λ e. omega arith) (digit-no b (λ x y. omega arith)))
 
-cap-ten : (v d : ℕ) → cap (cap v * 10 + d) ≡ cap (v * 10 + d)
-cap-ten v d = omega arith
-
--- a number that is cut on the way is cut at the end
-value-capped : (v : ℕ) (bs : List ℕ) → cap (value (cap v) bs) ≡ cap (value v bs)
-value-capped v [] = omega arith
-value-capped v (b ∷ bs) =
-    let d = b - 48 in
-    let one-more = sym (value-capped (cap v * 10 + d) bs) ∙ ap (λ x. cap (value x bs)) (cap-ten v d) ∙ value-capped (v * 10 + d) bs in
-    go (digit b) one-more
-  where
-    go : (t : Bool) → cap (value (cap v * 10 + (b - 48)) bs) ≡ cap (value (v * 10 + (b - 48)) bs) →
-        cap (cond t (value (cap v * 10 + (b - 48)) bs) (cap v)) ≡ cap (cond t (value (v * 10 + (b - 48)) bs) v)
-    go true h = h
-    go false h = omega arith
-
-pub value-more : (v : ℕ) (text : List ℕ) → 1 ≤ length text → 48 ≤ getD text 0 0 → getD text 0 0 ≤ 57 → cap (value (cap (v * 10 + (getD text 0 0 - 48))) (drop 1 text)) ≡ cap (value v text)
-value-more v [] p l h = absurd (omega arith)
-value-more v (b ∷ bs) p l h = let d : digit b ≡ true = digit-yes b l h in rw d (value-capped (v * 10 + (b - 48)) bs)
-
-pub run-more : (text : List ℕ) → 1 ≤ length text → 48 ≤ getD text 0 0 → getD text 0 0 ≤ 57 → drop (run (drop 1 text)) (drop 1 text) ≡ drop (run text) text
-run-more [] p l h = absurd (omega arith)
-run-more (b ∷ bs) p l h = let d : digit b ≡ true = digit-yes b l h in rw d
-
-pub no-digit : (v : ℕ) (text : List ℕ) → (1 ≤ length text → 48 ≤ getD text 0 0 → getD text 0 0 ≤ 57 → ⊥) → (value v text ≡ v) × (run text ≡ 0)
-no-digit v [] n = (refl, refl)
-no-digit v (b ∷ bs) n = let d : digit b ≡ false = digit-no b (n (omega arith)) in (rw d, rw d)
-
-pub pair-no : (x y : ℕ) (text : List ℕ) → (3 ≤ length text → getD text 1 0 ≡ x → getD text 2 0 ≡ y → ⊥) → pair x y (drop 1 text) ≡ false
-pair-no x y [] n = refl
-pair-no x y (a ∷ []) n = refl
-pair-no x y (a ∷ b ∷ []) n = refl
-pair-no x y (a ∷ b ∷ d ∷ bs) n = go (eqb b x) refl (eqb d y) refl
-  where
-    go : (p : Bool) → eqb b x ≡ p → (q : Bool) → eqb d y ≡ q → cond p q false ≡ false
-    go true e true h = absurd (n (omega arith) (eqb-true b x e) (eqb-true d y h))
-    go true e false h = refl
-    go false e q h = refl
-
-pub pair-yes : (x y : ℕ) (text : List ℕ) → 3 ≤ length text → getD text 1 0 ≡ x → getD text 2 0 ≡ y → pair x y (drop 1 text) ≡ true
-pair-yes x y [] l p q = absurd (omega arith)
-pair-yes x y (a ∷ []) l p q = absurd (omega arith)
-pair-yes x y (a ∷ b ∷ []) l p q = absurd (omega arith)
-pair-yes x y (a ∷ b ∷ d ∷ bs) l p q = rw (eq-eqb b x p, eq-eqb d y q)
-
-pub until-plain : (bs : List ℕ) → pair 60 61 bs ≡ false → pair 62 61 bs ≡ false → (sign 85 bs ≡ Until) × (more 85 bs ≡ 0)
-unfolding sign more
-until-plain bs p q = (rw (p, q), rw (p, q))
-
-pub until-most : (bs : List ℕ) → pair 60 61 bs ≡ true → (sign 85 bs ≡ UntilAtMost) × (more 85 bs ≡ 2)
-unfolding sign more
-until-most bs p = (rw p, rw p)
-
-pub until-least : (bs : List ℕ) → pair 60 61 bs ≡ false → pair 62 61 bs ≡ true → (sign 85 bs ≡ UntilAtLeast) × (more 85 bs ≡ 2)
-unfolding sign more
-until-least bs p q = (rw (p, q), rw (p, q))
-
-pub other-sign : (b : ℕ) (bs : List ℕ) → digit b ≡ false → (b ≡ 85 → ⊥) → (b ≡ 40 → ⊥) → (b ≡ 41 → ⊥) → (b ≡ 91 → ⊥) → (b ≡ 93 → ⊥) → (b ≡ 33 → ⊥) → (b ≡ 38 → ⊥) → (b ≡ 124 → ⊥) → (b ≡ 69 → ⊥) → (b ≡ 65 → ⊥) → (97 ≤ b → b ≤ 112 → ⊥) → sign b bs ≡ Bad
+pub none-begins : (b : ℕ) (bs : List ℕ) → (48 ≤ b → b ≤ 57 → ⊥) → (b ≡ 85 → ⊥) → (b ≡ 40 → ⊥) → (b ≡ 41 → ⊥)
+    → (b ≡ 91 → ⊥) → (b ≡ 93 → ⊥) → (b ≡ 33 → ⊥) → (b ≡ 38 → ⊥) → (b ≡ 124 → ⊥) → (b ≡ 69 → ⊥) → (b ≡ 65 → ⊥)
+    → (97 ≤ b → b ≤ 112 → ⊥) → (sign b bs ≡ Bad) × (more b bs ≡ 0)
 unfolding sign
-other-sign b bs d n85 n40 n41 n91 n93 n33 n38 n124 n69 n65 n =
+none-begins b bs f n85 n40 n41 n91 n93 n33 n38 n124 n69 n65 n =
+    let d : digit b ≡ false = digit-no b f in
     let e85 : eqb b 85 ≡ false = ne-eqb b 85 n85 in
+    let e48 : eqb b 48 ≡ false = ne-eqb b 48 (λ h. f (omega arith) (omega arith)) in
     let e40 : eqb b 40 ≡ false = ne-eqb b 40 n40 in
     let e41 : eqb b 41 ≡ false = ne-eqb b 41 n41 in
     let e91 : eqb b 91 ≡ false = ne-eqb b 91 n91 in
@@ -163,49 +154,76 @@ other-sign b bs d n85 n40 n41 n91 n93 n33 n38 n124 n69 n65 n =
     let e38 : eqb b 38 ≡ false = ne-eqb b 38 n38 in
     let e124 : eqb b 124 ≡ false = ne-eqb b 124 n124 in
     let e69 : eqb b 69 ≡ false = ne-eqb b 69 n69 in
-    let e65 : eqb b 65 ≡ false = ne-eqb b 65 n65 in
-    let e48 : eqb b 48 ≡ false = ne-eqb b 48 (λ h. zero-digit b h d) in
-    rw (e85, e48, d, e40, e41, e91, e93, e33, e38, e124, e69, e65) (go (leb 97 b) refl (leb b 112) refl)
+    let e65 : eqb b 65 ≡ false = ne-eqb b 65 n65 in (
+      rw (e85, e48, d, e40, e41, e91, e93, e33, e38, e124, e69, e65) (go (leb 97 b) refl (leb b 112) refl),
+      other-more b bs n85 d,
+    )
   where
-    zero-digit : (x : ℕ) → x ≡ 48 → digit x ≡ false → ⊥
-    zero-digit x e f = let g = subst (λ z. digit z ≡ false) e f in both-ways true g refl
-
     go : (x : Bool) → leb 97 b ≡ x → (y : Bool) → leb b 112 ≡ y → cond (cond x y false) (Letter (b - 97)) Bad ≡ Bad
     go true e true h = absurd (n (leb-true 97 b e) (leb-true b 112 h))
     go true e false h = refl
     go false e y h = refl
 
-pub empty-signs : (text : List ℕ) → length text < 1 → signs text ≡ []
-unfolding signsAfter
-empty-signs [] l = refl
-empty-signs (b ∷ bs) l = absurd (omega arith)
+-- a number
 
-pub drop-three : (text : List ℕ) → drop 3 text ≡ drop 2 (drop 1 text)
-drop-three [] = refl
-drop-three (b ∷ bs) = refl
+pub number-begins : (b : ℕ) (bs : List ℕ) → 49 ≤ b → b ≤ 57
+    → (sign b bs ≡ Number (value 0 (b ∷ bs))) × (more b bs ≡ run bs)
+unfolding sign more
+number-begins b bs p q =
+    let e85 : eqb b 85 ≡ false = ne-eqb b 85 (λ h. omega arith) in
+    let e48 : eqb b 48 ≡ false = ne-eqb b 48 (λ h. omega arith) in
+    let d : digit b ≡ true = digit-yes b (omega arith) q in
+    (rw (e85, e48, d), rw (e85, e48, d))
 
-pub zero-bad : (r : List ℕ) → 1 ≤ length r → 48 ≤ getD r 0 0 → getD r 0 0 ≤ 57 → sign 48 r ≡ Bad
-unfolding sign
+pub number-found : {t0 rest : List ℕ} (text : List ℕ) (n : ℕ) → Skipped t0 text → 1 ≤ length text → 49 ≤ getD text 0 0
+    → getD text 0 0 ≤ 57 → n ≡ cap (value 0 text) → rest ≡ drop (run text) text → Told t0 (Number n) rest
+number-found [] n k p low high v r = absurd (omega arith)
+number-found (b ∷ bs) n k p low high v r =
+    let x = number-begins b bs low high in
+    let m = r ∙ sym (run-more (b ∷ bs) p (omega arith) high) ∙ ap (λ i. drop i bs) (sym (x .1)) in
+    (sign b bs, ap Number v ∙ ap told (sym (x .0)), begins (b ∷ bs) k p m)
+
+pub zero-bad : (bs : List ℕ) → 1 ≤ length bs → 48 ≤ getD bs 0 0 → getD bs 0 0 ≤ 57
+    → (sign 48 bs ≡ Bad) × (more 48 bs ≡ 0)
+unfolding sign more
 zero-bad [] l p q = absurd (omega arith)
 zero-bad (b ∷ bs) l p q =
     let d : digit b ≡ true = digit-yes b p q in
     let e : eqb (suc (run bs)) 0 ≡ false = ne-eqb (suc (run bs)) 0 (λ h. omega arith) in
-    rw (d, e)
+    (rw (d, e), refl)
 
-pub zero-good : (r : List ℕ) → (1 ≤ length r → 48 ≤ getD r 0 0 → getD r 0 0 ≤ 57 → ⊥) → sign 48 r ≡ Number 0
-unfolding sign
-zero-good r n = let e = no-digit 0 r n .1 in rw e
+pub zero-good : (bs : List ℕ) → (1 ≤ length bs → 48 ≤ getD bs 0 0 → getD bs 0 0 ≤ 57 → ⊥)
+    → (sign 48 bs ≡ Number 0) × (more 48 bs ≡ 0)
+unfolding sign more
+zero-good bs n = let e = no-digit 0 bs n .1 in (rw e, refl)
 
-digits-drop : (text : List ℕ) → 1 ≤ length text → 48 ≤ getD text 0 0 → getD text 0 0 ≤ 57 → drop (run text) text ≡ drop (run (drop 1 text)) (drop 1 text)
-digits-drop text p low high = sym (run-more text p low high)
+-- `U`, and what follows it
 
-number-front : (text : List ℕ) → 1 ≤ length text → 49 ≤ getD text 0 0 → getD text 0 0 ≤ 57 →
-    (sign (getD text 0 0) (drop 1 text) ≡ Number (value 0 text)) × (more (getD text 0 0) (drop 1 text) ≡ run (drop 1 text))
-number-front [] p low high = absurd (omega arith)
-number-front (b ∷ bs) p low high = number-sign b bs low high
+pub pair-no : (x y : ℕ) (bs : List ℕ) → (2 ≤ length bs → getD bs 0 0 ≡ x → getD bs 1 0 ≡ y → ⊥) → pair x y bs ≡ false
+pair-no x y [] n = refl
+pair-no x y (a ∷ []) n = refl
+pair-no x y (a ∷ b ∷ bs) n = go (eqb a x) refl (eqb b y) refl
+  where
+    go : (p : Bool) → eqb a x ≡ p → (q : Bool) → eqb b y ≡ q → cond p q false ≡ false
+    go true e true h = absurd (n (omega arith) (eqb-true a x e) (eqb-true b y h))
+    go true e false h = refl
+    go false e q h = refl
 
-pub number-found : {t0 rest : List ℕ} (text : List ℕ) (n : ℕ) → Skipped t0 text → 1 ≤ length text → 49 ≤ getD text 0 0 → getD text 0 0 ≤ 57 →
-    n ≡ cap (value 0 text) → rest ≡ drop (run text) text → Told t0 (Number n) rest
-number-found text n k p low high v r =
-    let x = number-front text p low high in
-    found text k p (Number n) (Number (value 0 text)) (run (drop 1 text)) (x .0) (x .1) (r ∙ digits-drop text p (omega arith) high) (ap Number v)
+pub pair-yes : (x y : ℕ) (bs : List ℕ) → 2 ≤ length bs → getD bs 0 0 ≡ x → getD bs 1 0 ≡ y → pair x y bs ≡ true
+pair-yes x y [] l p q = absurd (omega arith)
+pair-yes x y (a ∷ []) l p q = absurd (omega arith)
+pair-yes x y (a ∷ b ∷ bs) l p q = rw (eq-eqb a x p, eq-eqb b y q)
+
+pub until-plain : (bs : List ℕ) → pair 60 61 bs ≡ false → pair 62 61 bs ≡ false
+    → (sign 85 bs ≡ Until) × (more 85 bs ≡ 0)
+unfolding sign more
+until-plain bs p q = (rw (p, q), rw (p, q))
+
+pub until-most : (bs : List ℕ) → pair 60 61 bs ≡ true → (sign 85 bs ≡ UntilAtMost) × (more 85 bs ≡ 2)
+unfolding sign more
+until-most bs p = (rw p, rw p)
+
+pub until-least : (bs : List ℕ) → pair 60 61 bs ≡ false → pair 62 61 bs ≡ true
+    → (sign 85 bs ≡ UntilAtLeast) × (more 85 bs ≡ 2)
+unfolding sign more
+until-least bs p q = (rw (p, q), rw (p, q))

@@ -2,13 +2,13 @@
 use mathlib.Core.Path.{_≡_}
 use mathlib.Core.List.{List, [], _∷_}
 use Prim.Native.Nat.{ℕ, _≤_, _<_}
-use lib.ListN.{length}
+use lib.ListN.{length, drop}
 use denote.Ref.{RefT, now}
 use Rattle.std.specs.declared.option.Option.{Option}
 use Rattle.std.specs.declared.option.Option.the-variants as option
 use Rattle.signs.specs.declared.Sign.{Sign}
 use Rattle.signs.specs.declared.Sign.the-variants.{Number}
-use Rattle.signs.specs.Signs.{signs, told}
+use Rattle.signs.specs.Signs.{sign, more, signs, told}
 
 abbrev pub NoSpace : List ℕ → Type 0
 NoSpace [] = Unit {0}
@@ -19,6 +19,11 @@ pub record Skipped (text rest : List ℕ) : Type 0 where
   pub same : signs rest ≡ signs text
   pub shorter : length rest ≤ length text
   pub stops : NoSpace rest
+
+-- The sign that begins with b before bs, as it is told, and what follows it.
+pub record Takes (b : ℕ) (bs : List ℕ) (s : Sign) (rest : List ℕ) : Type 0 where
+  pub first : s ≡ told (sign b bs)
+  pub left : rest ≡ drop (more b bs) bs
 
 -- The text is a sign, and then rest.
 pub record Begins (text : List ℕ) (s : Sign) (rest : List ℕ) : Type 0 where

@@ -3,7 +3,8 @@ ghost use mathlib.Core.Path.{_≡_};
 ghost use Prim.Native.Nat.{ℕ};
 ghost use lib.ListN.{drop};
 ghost use Rattle.signs.specs.Signs.{run, value, cap};
-ghost use Rattle.signs.specs.First.{Skipped, First, After, FirstNumber};
+ghost use Rattle.signs.specs.First.{Skipped, Takes, First, After, FirstNumber};
+ghost use Rattle.signs.specs.Writing.{Signs-right};
 use rules::line::Quantifier;
 use rules::line::QuantifierDebug;
 use rules::line::QuantifierPartialEq;
@@ -62,37 +63,53 @@ fn number(text: &[u8]) -> (u32, &[u8])
     (value, text)
 }
 
+// The sign that begins with a `U`, and what follows it; `rest` is what follows the `U`.
+fn until_sign(rest: &[u8]) -> (Sign, &[u8])
+    ensures { λ r. ⌜ Takes 85 (now (rest .entry)) (r .0) (now (r .1)) ⌝ }
+{
+    match rest {
+        [b'<', b'=', rest @ ..] => (Sign::UntilAtMost, rest),
+        [b'>', b'=', rest @ ..] => (Sign::UntilAtLeast, rest),
+        _ => (Sign::Until, rest),
+    }
+}
+
+// The sign that begins with a `0`, and what follows it; `rest` is what follows the `0`.
+fn zero_sign(rest: &[u8]) -> (Sign, &[u8])
+    ensures { λ r. ⌜ Takes 48 (now (rest .entry)) (r .0) (now (r .1)) ⌝ }
+{
+    match rest {
+        [b'0'..=b'9', ..] => (Sign::Bad, rest),
+        _ => (Sign::Number(0), rest),
+    }
+}
+
 // The first sign of a text, and what follows it.
 pub fn next_sign(text: &[u8]) -> Option<(Sign, &[u8])>
     ensures { λ r. ⌜ First (now (text .entry)) r ⌝ }
 {
     let text = skip_spaces(text);
-    match text {
-        [] => None,
-        [b'U', b'<', b'=', rest @ ..] => Some((Sign::UntilAtMost, rest)),
-        [b'U', b'>', b'=', rest @ ..] => Some((Sign::UntilAtLeast, rest)),
-        [b, rest @ ..] => match *b as char {
-            '(' => Some((Sign::Open, rest)),
-            ')' => Some((Sign::Close, rest)),
-            '[' => Some((Sign::OpenSquare, rest)),
-            ']' => Some((Sign::CloseSquare, rest)),
-            '!' => Some((Sign::Bang, rest)),
-            '&' => Some((Sign::Amp, rest)),
-            '|' => Some((Sign::Bar, rest)),
-            'E' => Some((Sign::Each(Quantifier::Some), rest)),
-            'A' => Some((Sign::Each(Quantifier::All), rest)),
-            'U' => Some((Sign::Until, rest)),
-            'a'..='p' => Some((Sign::Letter(*b - b'a'), rest)),
-            '0' => match rest {
-                [b'0'..=b'9', ..] => Some((Sign::Bad, rest)),
-                _ => Some((Sign::Number(0), rest)),
-            },
-            '1'..='9' => {
-                let (n, rest) = number(text);
-                Some((Sign::Number(n), rest))
-            }
-            _ => Some((Sign::Bad, rest)),
-        },
+    let [b, rest @ ..] = text else {
+        return None;
+    };
+    match *b as char {
+        '(' => Some((Sign::Open, rest)),
+        ')' => Some((Sign::Close, rest)),
+        '[' => Some((Sign::OpenSquare, rest)),
+        ']' => Some((Sign::CloseSquare, rest)),
+        '!' => Some((Sign::Bang, rest)),
+        '&' => Some((Sign::Amp, rest)),
+        '|' => Some((Sign::Bar, rest)),
+        'E' => Some((Sign::Each(Quantifier::Some), rest)),
+        'A' => Some((Sign::Each(Quantifier::All), rest)),
+        'U' => Some(until_sign(rest)),
+        'a'..='p' => Some((Sign::Letter(*b - b'a'), rest)),
+        '0' => Some(zero_sign(rest)),
+        '1'..='9' => {
+            let (n, rest) = number(text);
+            Some((Sign::Number(n), rest))
+        }
+        _ => Some((Sign::Bad, rest)),
     }
 }
 
@@ -116,3 +133,8 @@ pub fn number_first(text: &[u8]) -> Option<(u32, &[u8])>
         _ => None,
     }
 }
+
+// What the promises above call the signs of a text are what it writes.
+pub fn signs_are_written()
+    ensures { λ _. ⌜ Signs-right ⌝ }
+{}

@@ -47,7 +47,8 @@ module _ {X : Type 0} (l : Layout X) where
   pub below-inUse : (n i : ℕ) (bs : List ℕ) → i < length (inUse l n bs) → i < n
   below-inUse n i bs h = rw (length-inUse n bs) at h
 
-  pub getD-inUse : (n i : ℕ) (bs : List ℕ) (d : X) → i < n → getD (inUse l n bs) i d ≡ l .read (drop (l .width * i) bs)
+  pub getD-inUse : (n i : ℕ) (bs : List ℕ) (d : X) → i < n
+      → getD (inUse l n bs) i d ≡ l .read (drop (l .width * i) bs)
   getD-inUse zero i bs d h = absurd (omega arith)
   getD-inUse (suc n) zero bs d h = rw (mul-zero (l .width))
   getD-inUse (suc n) (suc i) bs d h =
@@ -87,7 +88,8 @@ module _ {X : Type 0} (l : Layout X) (law : Lawful l) where
       ∙ sym (append-assoc (l .write y) (bytes l (set xs i x)) rest)
 
   pub put-behind : (xs : List X) (rest : List ℕ) (x : X)
-      → put (bytes l xs ++ rest) (l .width * length xs) (l .write x) ≡ bytes l (xs ++ (x ∷ [])) ++ drop (l .width) rest
+      → put (bytes l xs ++ rest) (l .width * length xs) (l .write x)
+      ≡ bytes l (xs ++ (x ∷ [])) ++ drop (l .width) rest
   put-behind [] rest x =
       rw (mul-zero (l .width), zero-add (length (l .write x)), law .wide x, append-nil (l .write x))
   put-behind (y ∷ xs) rest x =
@@ -96,7 +98,8 @@ module _ {X : Type 0} (l : Layout X) (law : Lawful l) where
       ∙ ap (λ r. l .write y ++ r) (put-behind xs rest x)
       ∙ sym (append-assoc (l .write y) (bytes l (xs ++ (x ∷ []))) (drop (l .width) rest))
 
-  pub written : (n k : ℕ) (bs : List ℕ) (xs : List X) → length xs ≡ n → bs ≡ bytes l xs ++ replicate k 0 → Written l n bs xs
+  pub written : (n k : ℕ) (bs : List ℕ) (xs : List X) → length xs ≡ n → bs ≡ bytes l xs ++ replicate k 0
+      → Written l n bs xs
   written n k bs xs e h =
       let zeros : length bs - length (bytes l xs) ≡ k =
       omega (arith, ap length h ∙ length-append (bytes l xs) (replicate k 0), length-replicate {A = ℕ} k 0) in
@@ -104,7 +107,10 @@ module _ {X : Type 0} (l : Layout X) (law : Lawful l) where
       ap (λ m. inUse l m bs) (sym e) ∙ ap (inUse l (length xs)) h ∙ inUse-bytes xs (replicate k 0) in
       record {
         reads = r;
-        holds = h ∙ ap (λ m. bytes l xs ++ replicate m 0) (sym zeros) ∙ ap (λ ys. filled (length bs) (bytes l ys)) (sym r);
+        holds =
+            h
+            ∙ ap (λ m. bytes l xs ++ replicate m 0) (sym zeros)
+            ∙ ap (λ ys. filled (length bs) (bytes l ys)) (sym r);
       }
 
   -- the record x written to an area of n records

@@ -7,7 +7,8 @@ use Rattle.program.specs.declared.Kind.{Kind}
 use Rattle.program.specs.declared.Kind.the-variants.{Open, Silent}
 use Rattle.program.specs.declared.Stage.{Stage}
 use Rattle.program.specs.declared.Move.{Move}
-use Rattle.stores.specs.Records.{kindByte, readKind, stageRecord, moveRecord, readStage, readMove, stageLayout, moveLayout}
+use Rattle.stores.specs.Records.{kindByte, readKind, stageRecord, readStage, stageLayout}
+use Rattle.stores.specs.Records.{moveRecord, readMove, moveLayout}
 use Rattle.stores.proofs.Areas.{Lawful}
 
 low-high : (n : ℕ) → n % 256 + 256 * (n / 256) ≡ n

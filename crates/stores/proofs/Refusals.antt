@@ -1,25 +1,26 @@
--- How an implementation shows that a refused edit does what its step says.
-use mathlib.Core.Path.{_≡_, refl, sym, ap}
-use mathlib.Core.Bool.{true}
-use Prim.Native.Nat.{ℕ, _≤_}
+-- How a store shows that an edit does what its step says, once it is known to be allowed or refused.
+use mathlib.Core.Path.{_≡_, refl}
+use Prim.Native.Nat.{ℕ, _<_, _≤_}
 use lib.ListN.{length}
 use borrow.Author.Tests.{lt-ltb, le-ltb, le-leb}
-use Rattle.std.specs.declared.result.Result.the-variants.{Err}
+use Rattle.std.specs.declared.result.Result.the-variants.{Ok, Err}
 use Rattle.program.specs.declared.EditFault.{EditFault}
 use Rattle.program.specs.declared.EditFault.the-variants.{StagesFull, MovesFull}
 use Rattle.program.specs.declared.Move.{Move}
 use Rattle.program.specs.Meaning.{Prog, mostMinutes}
-use Rattle.program.specs.Edits.{Caps, Out, Does, refused, openStep, layStep}
+use Rattle.program.specs.Edits.{Caps, Out, Does, refused, openStep, layStep, withMove}
+use Rattle.program.proofs.Doing.{lays}
 use Rattle.stores.specs.Allowed.{LayAllowed}
 
 pub refuses : (o : Out) (e : EditFault) (p : Prog) → o ≡ refused e p → Does o (Err e) p
 refuses o e p h = rw h (record { answers = refl; leaves = refl })
 
-pub open-full : (caps : Caps) (p : Prog) (m : ℕ) → caps .stages ≤ length (p .stages) → Does (openStep caps p m) (Err StagesFull) p
+pub open-full : (caps : Caps) (p : Prog) (m : ℕ) → caps .stages ≤ length (p .stages)
+    → Does (openStep caps p m) (Err StagesFull) p
 open-full caps p m h = refuses _ _ p (rw (le-ltb (length (p .stages)) (caps .stages) h))
 
-pub lay-full : (caps : Caps) (p : Prog) (s d t : ℕ) (r : Move) → LayAllowed p s d t r → caps .moves ≤ length (p .moves)
-    → Does (layStep caps p s d t) (Err MovesFull) p
+pub lay-full : (caps : Caps) (p : Prog) (s d t : ℕ) (r : Move) → LayAllowed p s d t r
+    → caps .moves ≤ length (p .moves) → Does (layStep caps p s d t) (Err MovesFull) p
 lay-full caps p s d t r a h =
     refuses _ _ p (rw (
       lt-ltb s (length (p .stages)) (a .leaves-stage),
@@ -29,3 +30,8 @@ lay-full caps p s d t r a h =
       le-leb d mostMinutes (a .short),
       le-ltb (length (p .moves)) (caps .moves) h,
     ))
+
+pub allowed-lays : (caps : Caps) (p q : Prog) (s d t : ℕ) (r : Move) (n : ℕ) → LayAllowed p s d t r
+    → length (p .moves) ≡ n → n < caps .moves → q ≡ withMove p s d t → Does (layStep caps p s d t) (Ok n) q
+allowed-lays caps p q s d t r n a =
+    lays caps p q s d t n (a .leaves-stage) (a .enters-stage) (a .leaves-open) (a .enters-open) (a .short)

@@ -1,8 +1,10 @@
--- What a program allows before a store looks for room: an edit that is allowed, and one that any store would refuse.
+-- What a program allows before a store looks for room: an edit is allowed, or every store refuses it.
 use mathlib.Core.Path.{_≡_}
 use mathlib.Core.Bool.{true}
 use Prim.Native.Nat.{ℕ, _<_, _≤_}
 use lib.ListN.{length}
+use Rattle.std.specs.declared.result.Result.{Result}
+use Rattle.std.specs.Results.{Cases}
 use Rattle.program.specs.declared.Stage.{Stage}
 use Rattle.program.specs.declared.Move.{Move}
 use Rattle.program.specs.declared.EditFault.{EditFault}
@@ -19,8 +21,8 @@ pub record MarkAllowed (p : Prog) (s : ℕ) (r : Stage) : Type 0 where
   pub shown : isOpen (stageAt p s .kind) ≡ true
   pub is : r ≡ stageAt p s
 
-abbrev pub MarkRefused : Prog → ℕ → EditFault → Type 0
-MarkRefused p s e = (m : ℕ) → markStep p s m ≡ refused e p
+abbrev pub MarkTested : Prog → ℕ → Result Stage EditFault → Type 0
+MarkTested p s r = Cases r (MarkAllowed p s) (λ e. (m : ℕ) → markStep p s m ≡ refused e p)
 
 -- Both ends are open stages, the minutes are few enough, and r is that move.
 pub record LayAllowed (p : Prog) (s d t : ℕ) (r : Move) : Type 0 where
@@ -31,5 +33,5 @@ pub record LayAllowed (p : Prog) (s d t : ℕ) (r : Move) : Type 0 where
   pub short : d ≤ mostMinutes
   pub is : r ≡ record { leaves = s; minutes = d; enters = t }
 
-abbrev pub LayRefused : Prog → ℕ → ℕ → ℕ → EditFault → Type 0
-LayRefused p s d t e = (caps : Caps) → layStep caps p s d t ≡ refused e p
+abbrev pub LayTested : Prog → ℕ → ℕ → ℕ → Result Move EditFault → Type 0
+LayTested p s d t r = Cases r (LayAllowed p s d t) (λ e. (caps : Caps) → layStep caps p s d t ≡ refused e p)

@@ -1,7 +1,5 @@
 // What a program allows before a store looks for room: the refusals of an edit, in their order.
-ghost use mathlib.Core.Path.{_≡_};
-ghost use Rattle.std.specs.Results.{Cases};
-ghost use Rattle.stores.specs.Allowed.{MarkAllowed, MarkRefused, LayAllowed, LayRefused};
+ghost use Rattle.stores.specs.Allowed.{MarkTested, LayTested};
 use program::EditFault;
 use program::Kind;
 use program::MOST_MINUTES;
@@ -11,7 +9,7 @@ use program::Stage;
 
 // The stage of that number, where `mark` may replace its marks.
 pub fn open_stage<P: Program>(program: &P, stage: usize) -> Result<Stage, EditFault>
-    ensures { λ r. ⌜ Cases r (MarkAllowed (meaning (now (program .entry))) stage) (MarkRefused (meaning (now (program .entry))) stage) ⌝ }
+    ensures { λ r. ⌜ MarkTested (meaning (now (program .entry))) stage r ⌝ }
 {
     if stage >= program.stage_count() {
         return Err(EditFault::NoStage);
@@ -30,7 +28,7 @@ pub fn allowed_move<P: Program>(
     minutes: u32,
     enters: usize,
 ) -> Result<Move, EditFault>
-    ensures { λ r. ⌜ Cases r (LayAllowed (meaning (now (program .entry))) leaves minutes enters) (LayRefused (meaning (now (program .entry))) leaves minutes enters) ⌝ }
+    ensures { λ r. ⌜ LayTested (meaning (now (program .entry))) leaves minutes enters r ⌝ }
 {
     let stages = program.stage_count();
     if leaves >= stages || enters >= stages {

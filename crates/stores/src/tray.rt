@@ -1,6 +1,8 @@
 // A tray: a store whose records lie in two byte areas that its user lends, one for stages and one for moves.
 // The areas hold the bytes of the records in use and zeros behind them, between any two calls.
-mod areas;
+// They are lent together: of a struct with a single loan, the lender knows what it left when it is gone.
+pub mod areas;
+mod bytes;
 pub mod edits;
 mod records;
 
@@ -10,17 +12,17 @@ ghost use Rattle.std.specs.Of.Vec.{vec-items, vec-len};
 ghost use Rattle.stores.specs.Allowed.{Ends};
 ghost use Rattle.stores.specs.Areas.{Holds};
 ghost use Rattle.stores.specs.Records.{stageLayout, moveLayout};
-ghost use Rattle.stores.specs.Trays.{stageRoom, moveRoom, trayProg};
+ghost use Rattle.stores.specs.Trays.{stageRoom, moveRoom, areasProg};
+use areas::Areas;
 
 #[derive(Drop)]
 pub struct Tray<'a> {
-    stages: &'a mut Vec<u8>,
-    moves: &'a mut Vec<u8>,
+    areas: &'a mut Areas,
     stage_count: usize,
     move_count: usize,
-    ghost stage_area: { Holds stageLayout «stage_count» (vec-items (now stages)) },
-    ghost move_area: { Holds moveLayout «move_count» (vec-items (now moves)) },
-    ghost stage_room: { «stage_count» ≤ stageRoom (vec-len (now stages)) },
-    ghost move_room: { «move_count» ≤ moveRoom (vec-len (now moves)) },
-    ghost ends: { Ends (trayProg «stage_count» (vec-items (now stages)) «move_count» (vec-items (now moves))) },
+    ghost stage_area: { Holds stageLayout «stage_count» (vec-items (now areas .stages)) },
+    ghost move_area: { Holds moveLayout «move_count» (vec-items (now areas .moves)) },
+    ghost stage_room: { «stage_count» ≤ stageRoom (vec-len (now areas .stages)) },
+    ghost move_room: { «move_count» ≤ moveRoom (vec-len (now areas .moves)) },
+    ghost ends: { Ends (areasProg «stage_count» «move_count» (now areas)) },
 }

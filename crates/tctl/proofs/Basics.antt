@@ -1,13 +1,15 @@
-use mathlib.Core.Path.{_≡_, refl, sym, _∙_, ap, subst}
-use mathlib.Core.List.{List, [], _∷_}
-use mathlib.Core.Bool.{Bool, true, false, cond}
+-- Tests, tables and counting, which the proofs of the crate share.
+use mathlib.Core.Path.{_≡_, sym, _∙_, ap, subst}
+use mathlib.Core.List.{List}
+use mathlib.Core.Bool.{Bool, true, false}
 use mathlib.Core.Logic.{_⊎_, inl, inr, ⊎-elim}
 use Prim.Native.Nat.{ℕ, zero, suc, _+_, _≤_, _<_}
 use native.Mathlib.Nat.{add-zero, zero-add, add-suc, suc-add, le-of-suc-le-suc, not-suc-le-zero}
 use native.Mathlib.Omega.{arith}
-use lib.ListN.{length, getD}
+use lib.ListN.{getD}
 use lib.Dec.{T, eqb, eqb→eq, eqb-refl}
-use Rattle.std.proofs.shelf.Tests.{cases-eq, cases-lt}
+use Rattle.std.proofs.shelf.Tests.{cases-eq}
+use Rattle.tctl.specs.Graph.{Move}
 use Rattle.tctl.specs.Checker.{table, tabFrom, _and_, _or_, non, at}
 
 -- Tests
@@ -70,6 +72,10 @@ table-e f n s t =
 pub table-i : (f : ℕ → Bool) (n s : ℕ) → s < n → T (f s) → T (at (table n f) s)
 table-i f n s h t = subst (λ b. T b) (sym (table-at f false n s h)) t
 
+-- The move at a place of a list
+abbrev pub moveIn : List Move → ℕ → Move
+moveIn ms m = getD ms m (record { leaves = 0; minutes = 0; enters = 0 })
+
 -- How many of the numbers below n are in a set
 
 abbrev pub bit : Bool → ℕ
@@ -104,7 +110,8 @@ card-le P R h zero = omega arith
 card-le P R h (suc n) =
     let a = card-le P R h n in let b = bit-le (P n) (R n) (h n) in omega arith
 
-pub card-lt : (P R : ℕ → Bool) → ((s : ℕ) → T (P s) → T (R s)) → (s : ℕ) → (T (P s) → ⊥) → T (R s) → (n : ℕ) → s < n → card P n < card R n
+pub card-lt : (P R : ℕ → Bool) → ((s : ℕ) → T (P s) → T (R s)) → (s : ℕ) → (T (P s) → ⊥) → T (R s) → (n : ℕ) → s < n
+    → card P n < card R n
 card-lt P R h s no′ yes′ zero l = absurd (not-suc-le-zero l)
 card-lt P R h s no′ yes′ (suc n) l = go (cases-eq s n) (card-lt P R h s no′ yes′ n)
   where
@@ -145,7 +152,8 @@ find P (suc n) = go (passes (P n)) (find P n)
         → ((s : ℕ) × (s < suc n) × T (P s)) ⊎ ((s : ℕ) → s < suc n → T (P s) → ⊥)
     go (inl t) f = inl (n, omega arith, t)
     go (inr d) (inl f) = inl (f .0, omega arith, f .2)
-    go (inr d) (inr f) = inr (λ s l t. ⊎-elim (λ e. d (subst (λ x. T (P x)) e t)) (λ e. f s (omega arith) t) (cases-eq s n))
+    go (inr d) (inr f) = inr
+        (λ s l t. ⊎-elim (λ e. d (subst (λ x. T (P x)) e t)) (λ e. f s (omega arith) t) (cases-eq s n))
 
 -- Among n + 1 values below n, two are equal, and the first of them has at most n before it.
 pigeons : (n c : ℕ) (A : ℕ → Bool) (f : ℕ → ℕ) → card A n ≤ c → ((i : ℕ) → f i < n) → ((i : ℕ) → i ≤ c → T (A (f i)))

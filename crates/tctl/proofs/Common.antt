@@ -1,24 +1,23 @@
--- What the four cases share.
-use mathlib.Core.Path.{_≡_, refl, sym, _∙_, ap, subst}
+-- What the proofs of the four untils share.
+use mathlib.Core.Path.{subst}
 use mathlib.Core.List.{List, [], _∷_}
-use mathlib.Core.Bool.{Bool, true, false, cond}
-use mathlib.Core.Logic.{_⊎_, inl, inr, ⊎-elim}
-use Prim.Native.Nat.{ℕ, zero, suc, _+_, _-_, _≤_, _<_}
-use native.Mathlib.Nat.{not-suc-le-zero, add-zero, zero-add, add-assoc}
+use mathlib.Core.Bool.{Bool, false}
+use mathlib.Core.Logic.{inl, inr}
+use Prim.Native.Nat.{ℕ, zero, suc, _+_, _≤_, _<_}
+use native.Mathlib.Nat.{zero-add, add-assoc}
 use native.Mathlib.Omega.{arith}
 use lib.ListN.{length, getD}
-use lib.Dec.{T, leb, leb→le, le→leb, eqb}
-use Rattle.std.proofs.shelf.Tests.{cases-eq, cases-lt}
-use Rattle.tctl.specs.Graph.{Graph, Stage, Move, Open, size, count, stageAt, moveAt}
+use lib.Dec.{T, leb→le, le→leb}
+use Rattle.tctl.specs.Graph.{Graph, Stage, Move, Open, size, moveAt}
 use Rattle.tctl.specs.Runs.{Run, stageOn, timeOn, Sound}
-use Rattle.tctl.specs.Rules.{Bound, most, least}
-use Rattle.tctl.specs.Holds.{Meets, Until}
-use Rattle.tctl.specs.Checker.{Entry, none, sum, Kind, shortest, longest, tally, table, at, into, endless, any-move, still, _and_, _or_, non, open?, some?, most?, least?, some-list, each-list}
-use Rattle.tctl.proofs.Basics.{passes, and-l, and-r, and-i, or-e, or-l, or-r, non-e, non-i, table-e, table-i}
-use Rattle.tctl.proofs.Reach.{Reach, stop, widen, within-size}
-use Rattle.tctl.proofs.Tally.{Shows, Closed, tally-e, tally-i}
-use Rattle.tctl.proofs.Runs.{Comes, run-reach, reach-run, some-run, rest, next, put, before}
-use Rattle.tctl.proofs.Endless.{In, Step, in-before, in-step, in-i, in-set, in-pull, fixed, stay, rank, escape, late}
+use Rattle.tctl.specs.Checker.{Entry, none, sum, shortest, longest, at, endless, any-move, _and_, non}
+use Rattle.tctl.specs.Checker.{some?, most?, least?}
+use Rattle.tctl.proofs.Basics.{and-i, non-i}
+use Rattle.tctl.proofs.Sums.{sum-mono}
+use Rattle.tctl.proofs.Reach.{Reach, widen}
+use Rattle.tctl.proofs.Tally.{Shows, Closed}
+use Rattle.tctl.proofs.Runs.{rest, next}
+use Rattle.tctl.proofs.Endless.{In, in-before, in-pull}
 
 -- The list has the stages at which S holds, which are open.
 pub record Tells (p : Graph) (F : List Bool) (S : ℕ → Type 0) : Type 0 where
@@ -66,22 +65,29 @@ least-i c none t = t
 least-i c (sum a) t = le→leb c a t
 
 pub time-mono : (p : Graph) (j i : ℕ) (w : ℕ → ℕ) → j ≤ i → timeOn p j w ≤ timeOn p i w
-time-mono p zero i w l = omega arith
-time-mono p (suc j) zero w l = absurd (not-suc-le-zero l)
-time-mono p (suc j) (suc i) w l = let h = time-mono p j i (next w) (omega arith) in omega arith
+time-mono = sum-mono (λ (m : Move). m .minutes)
 
 -- A walk that goes on from where a run is after i moves.
-pub join : (p : Graph) (P G : ℕ → Bool) (k i s : ℕ) (r : Run p s) (Q : ℕ → Type 0) → ((j : ℕ) → j < i → T (P (stageOn p (r .way) j))) → Reach p P G k (stageOn p (r .way) i) (λ x. Q (timeOn p i (r .way) + x)) → (n : ℕ) × Reach p P G n s Q
-join p P G k zero s r Q h w =
-    (k, widen p P P G G (λ x u. u) (λ x u. u) k s _ _ (λ x q. subst Q (zero-add x) q) (subst (λ y. Reach p P G k y (λ x. Q (0 + x))) (r .starts) w))
+pub join : (p : Graph) (P G : ℕ → Bool) (k i s : ℕ) (r : Run p s) (Q : ℕ → Type 0)
+    → ((j : ℕ) → j < i → T (P (stageOn p (r .way) j)))
+    → Reach p P G k (stageOn p (r .way) i) (λ x. Q (timeOn p i (r .way) + x)) → (n : ℕ) × Reach p P G n s Q
+join p P G k zero s r Q h w = (
+  k,
+  widen p P P G G (λ x u. u) (λ x u. u) k s _ _ (λ x q. subst Q (zero-add x) q)
+      (subst (λ y. Reach p P G k y (λ x. Q (0 + x))) (r .starts) w),
+)
 join p P G k (suc i) s r Q h w =
     let o =
-    join p P G k i (moveAt p (r .way 0) .enters) (rest p s r) (λ x. Q (moveAt p (r .way 0) .minutes + x)) (λ j l. h (suc j) (omega arith))
-    (widen p P P G G (λ x u. u) (λ x u. u) k _ _ _ (λ x q. subst Q (add-assoc (moveAt p (r .way 0) .minutes) (timeOn p i (next (r .way))) x) q) w) in
+    join p P G k i (moveAt p (r .way 0) .enters) (rest p s r) (λ x. Q (moveAt p (r .way 0) .minutes + x))
+    (λ j l. h (suc j) (omega arith))
+    (widen p P P G G (λ x u. u) (λ x u. u) k _ _ _
+    (λ x q. subst Q (add-assoc (moveAt p (r .way 0) .minutes) (timeOn p i (next (r .way))) x) q) w) in
     (suc (o .0), inr (r .way 0, r .real 0, r .starts, subst (λ x. T (P x)) (r .starts) (h 0 (omega arith)), o .1))
 
 -- A walk in a set, from a stage that need leave it, stays out of the stages that need not.
-pub avoid : (p : Graph) (ok : Sound p) (set : List Bool) → ((s : ℕ) → T (at set s) → s < size p) → (G : ℕ → Bool) (k s : ℕ) (Q : ℕ → Type 0) → (In p (ok .from) any-move set (size p) s → ⊥) → Reach p (at set) G k s Q → Reach p (λ x. at set x and non (at (endless p any-move set (size p)) x)) G k s Q
+pub avoid : (p : Graph) (ok : Sound p) (set : List Bool) → ((s : ℕ) → T (at set s) → s < size p)
+    → (G : ℕ → Bool) (k s : ℕ) (Q : ℕ → Type 0) → (In p (ok .from) any-move set (size p) s → ⊥)
+    → Reach p (at set) G k s Q → Reach p (λ x. at set x and non (at (endless p any-move set (size p)) x)) G k s Q
 avoid p ok set fits G zero s Q d w = w
 avoid p ok set fits G (suc k) s Q d (inl w) = inl w
 avoid p ok set fits G (suc k) s Q d (inr w) =
@@ -89,9 +95,11 @@ avoid p ok set fits G (suc k) s Q d (inr w) =
       w .0,
       w .1,
       w .2,
-      and-i (at set s) (non (at (endless p any-move set (size p)) s)) (w .3) (non-i (at (endless p any-move set (size p)) s) d),
+      and-i (at set s) (non (at (endless p any-move set (size p)) s)) (w .3)
+          (non-i (at (endless p any-move set (size p)) s) d),
       avoid p ok set fits G k (moveAt p (w .0) .enters) _
-          (λ t. d (in-before p (ok .from) any-move set (size p) s (in-pull p (ok .from) any-move set (size p) s (w .3) (w .0, w .1, w .2, tt, t)))) (w .4),
+          (λ t. d (in-before p (ok .from) any-move set (size p) s
+          (in-pull p (ok .from) any-move set (size p) s (w .3) (w .0, w .1, w .2, tt, t)))) (w .4),
     )
 
 pub most-closed : (c : ℕ) → Closed shortest (λ x. x ≤ c)

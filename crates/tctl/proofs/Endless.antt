@@ -1,24 +1,23 @@
 -- The stages from which a set need never be left.
-use mathlib.Core.Path.{_≡_, refl, sym, _∙_, ap, subst}
+use mathlib.Core.Path.{_≡_, sym, subst}
 use mathlib.Core.List.{List, [], _∷_}
-use mathlib.Core.Bool.{Bool, true, false, cond}
+use mathlib.Core.Bool.{Bool, true}
 use mathlib.Core.Logic.{_⊎_, inl, inr, ⊎-elim}
 use Prim.Native.Nat.{ℕ, zero, suc, _+_, _≤_, _<_}
-use native.Mathlib.Nat.{not-suc-le-zero, add-zero, zero-add}
+use native.Mathlib.Nat.{not-suc-le-zero}
 use native.Mathlib.Omega.{arith}
-use lib.ListN.{length, getD}
+use lib.ListN.{length}
 use lib.Dec.{T, eqb, eqb→eq, eqb-refl}
 use Rattle.tctl.specs.Graph.{Graph, Move, size, count, moveAt}
 use Rattle.tctl.specs.Runs.{Run, stageOn, timeOn, Sound}
-use Rattle.tctl.specs.Checker.{table, at, into, endless, any-move, still, _and_, _or_, non}
-use Rattle.tctl.proofs.Basics.{passes, and-l, and-r, and-i, or-e, or-l, or-r, non-e, non-i, table-e, table-i, card, card-top, card-lt, card-none, find, pigeon}
+use Rattle.tctl.specs.Checker.{table, at, into, endless, still, _and_, non}
+use Rattle.tctl.proofs.Basics.{moveIn, passes, and-l, and-r, and-i, or-e, or-l, or-r, non-e, non-i, table-e, table-i}
+use Rattle.tctl.proofs.Basics.{card, card-top, card-lt, card-none, find, pigeon}
 use Rattle.tctl.proofs.Reach.{Reach, stop}
 use Rattle.tctl.proofs.Runs.{no-time, drop-run, inside, inside-stays, inside-sort, rest, next}
 
-abbrev pub moveIn : List Move → ℕ → Move
-moveIn ms m = getD ms m (record { leaves = 0; minutes = 0; enters = 0 })
-
-pub into-e : (sort : Move → Bool) (S : List Bool) (s : ℕ) (ms : List Move) → T (into sort ms S s) → (m : ℕ) × (m < length ms) × (moveIn ms m .leaves ≡ s) × T (sort (moveIn ms m)) × T (at S (moveIn ms m .enters))
+pub into-e : (sort : Move → Bool) (S : List Bool) (s : ℕ) (ms : List Move) → T (into sort ms S s)
+    → (m : ℕ) × (m < length ms) × (moveIn ms m .leaves ≡ s) × T (sort (moveIn ms m)) × T (at S (moveIn ms m .enters))
 into-e sort S s [] t = absurd t
 into-e sort S s (m ∷ ms) t =
     ⊎-elim
@@ -32,25 +31,26 @@ into-e sort S s (m ∷ ms) t =
     (λ h. let o = into-e sort S s ms h in (suc (o .0), omega arith, o .2, o .3, o .4))
     (or-e (eqb (m .leaves) s and sort m and at S (m .enters)) (into sort ms S s) t)
 
-pub into-i : (sort : Move → Bool) (S : List Bool) (s : ℕ) (ms : List Move) (m : ℕ) → m < length ms → moveIn ms m .leaves ≡ s → T (sort (moveIn ms m)) → T (at S (moveIn ms m .enters)) → T (into sort ms S s)
+pub into-i : (sort : Move → Bool) (S : List Bool) (s : ℕ) (ms : List Move) (m : ℕ) → m < length ms
+    → moveIn ms m .leaves ≡ s → T (sort (moveIn ms m)) → T (at S (moveIn ms m .enters)) → T (into sort ms S s)
 into-i sort S s [] m l e q t = absurd (not-suc-le-zero l)
 into-i sort S s (m ∷ ms) zero l e q t =
     or-l (eqb (m .leaves) s and sort m and at S (m .enters)) (into sort ms S s)
-    (and-i (eqb (m .leaves) s) (sort m and at S (m .enters)) (subst (λ x. T (eqb (m .leaves) x)) e (eqb-refl (m .leaves)))
+    (and-i (eqb (m .leaves) s) (sort m and at S (m .enters))
+    (subst (λ x. T (eqb (m .leaves) x)) e (eqb-refl (m .leaves)))
     (and-i (sort m) (at S (m .enters)) q t))
 into-i sort S s (m ∷ ms) (suc i) l e q t =
-    or-r (eqb (m .leaves) s and sort m and at S (m .enters)) (into sort ms S s) (into-i sort S s ms i (omega arith) e q t)
+    or-r (eqb (m .leaves) s and sort m and at S (m .enters)) (into sort ms S s)
+    (into-i sort S s ms i (omega arith) e q t)
 
-module _ (p : Graph) (from : (m : ℕ) → m < count p → moveAt p m .leaves < size p) (sort : Move → Bool) (set : List Bool) where
+module _ (p : Graph) (from : (m : ℕ) → m < count p → moveAt p m .leaves < size p) (sort : Move → Bool)
+    (set : List Bool) where
   abbrev pub In : ℕ → ℕ → Type 0
   In i s = T (at (endless p sort set i) s)
 
   -- a move of the sort from s into what is left after i turns
   abbrev pub Step : ℕ → ℕ → Type 0
   Step i s = (m : ℕ) × (m < count p) × (moveAt p m .leaves ≡ s) × T (sort (moveAt p m)) × In i (moveAt p m .enters)
-
-  keep : ℕ → ℕ → Bool
-  keep i s = at (endless p sort set i) s and into sort (p .moves) (endless p sort set i) s
 
   pub in-before : (i s : ℕ) → In (suc i) s → In i s
   in-before i s t =
@@ -90,7 +90,8 @@ module _ (p : Graph) (from : (m : ℕ) → m < count p → moveAt p m .leaves < 
   module _ (fits : (s : ℕ) → T (at set s) → s < size p) where
     settle : (i : ℕ) → Stable i ⊎ (card (at (endless p sort set i)) (size p) + i ≤ size p)
     settle zero = inr (let c = card-top (at (endless p sort set 0)) (size p) in omega arith)
-    settle (suc i) = go (settle i) (find (λ s. at (endless p sort set i) s and non (at (endless p sort set (suc i)) s)) (size p))
+    settle (suc i) = go (settle i)
+        (find (λ s. at (endless p sort set i) s and non (at (endless p sort set (suc i)) s)) (size p))
       where
         go : Stable i ⊎ (card (at (endless p sort set i)) (size p) + i ≤ size p)
             → ((s : ℕ) × (s < size p) × T (at (endless p sort set i) s and non (at (endless p sort set (suc i)) s)))
@@ -107,7 +108,9 @@ module _ (p : Graph) (from : (m : ℕ) → m < count p → moveAt p m .leaves < 
         go (inr c) (inr f) =
             let st : Stable i = λ s t.
             ⊎-elim (λ u. u)
-            (λ d. absurd (f s (fits s (in-set i s t)) (and-i (at (endless p sort set i) s) (non (at (endless p sort set (suc i)) s)) t (non-i (at (endless p sort set (suc i)) s) d))))
+            (λ d. absurd (f s (fits s (in-set i s t))
+            (and-i (at (endless p sort set i) s) (non (at (endless p sort set (suc i)) s)) t
+            (non-i (at (endless p sort set (suc i)) s) d))))
             (passes (at (endless p sort set (suc i)) s)) in
             inl (stable-suc i st)
 
@@ -115,11 +118,13 @@ module _ (p : Graph) (from : (m : ℕ) → m < count p → moveAt p m .leaves < 
     pub fixed : (s : ℕ) → In (size p) s → In (suc (size p)) s
     fixed s t =
         ⊎-elim (λ st. st s t)
-        (λ c. absurd (card-none (at (endless p sort set (size p))) (size p) (omega arith) s (fits s (in-set (size p) s t)) t))
+        (λ c. absurd (card-none (at (endless p sort set (size p))) (size p) (omega arith) s
+        (fits s (in-set (size p) s t)) t))
         (settle (size p))
 
     -- A run that never leaves it.
-    pub stay : (s : ℕ) → In (size p) s → (r : Run p s) × ((i : ℕ) → In (size p) (stageOn p (r .way) i) × T (sort (moveAt p (r .way i))))
+    pub stay : (s : ℕ) → In (size p) s
+        → (r : Run p s) × ((i : ℕ) → In (size p) (stageOn p (r .way) i) × T (sort (moveAt p (r .way i))))
     stay s t =
         let X : ℕ → Type 0 = λ x. In (size p) x in
         let Y : ℕ → Type 0 = λ m. T (sort (moveAt p m)) in
@@ -128,7 +133,8 @@ module _ (p : Graph) (from : (m : ℕ) → m < count p → moveAt p m .leaves < 
         (inside p X Y on s t, λ i. (inside-stays p X Y on s t i, inside-sort p X Y on s t i))
 
   -- A walk in the set from a stage that is removed has at most as many moves as turns were made.
-  pub rank : (P G : ℕ → Bool) → ((s : ℕ) → T (P s) → T (at set s)) → ((m : Move) → T (sort m)) → (i k s : ℕ) (Q : ℕ → Type 0) → (In i s → ⊥) → Reach p P G k s Q → Reach p P G i s Q
+  pub rank : (P G : ℕ → Bool) → ((s : ℕ) → T (P s) → T (at set s)) → ((m : Move) → T (sort m))
+      → (i k s : ℕ) (Q : ℕ → Type 0) → (In i s → ⊥) → Reach p P G k s Q → Reach p P G i s Q
   rank P G sub all i zero s Q d w = stop p P G i s Q (w .0) (w .1)
   rank P G sub all i (suc k) s Q d (inl w) = stop p P G i s Q (w .0) (w .1)
   rank P G sub all zero (suc k) s Q d (inr w) = absurd (d (sub s (w .3)))
@@ -143,12 +149,15 @@ module _ (p : Graph) (from : (m : ℕ) → m < count p → moveAt p m .leaves < 
       )
 
   -- A run from a stage that is removed comes out of the set, or makes a move of another sort.
-  pub escape : (i s : ℕ) (r : Run p s) → ((m : Move) → T (sort m)) → (In i s → ⊥) → (j : ℕ) × (T (at set (stageOn p (r .way) j)) → ⊥) × ((x : ℕ) → x < j → T (at set (stageOn p (r .way) x)))
+  pub escape : (i s : ℕ) (r : Run p s) → ((m : Move) → T (sort m)) → (In i s → ⊥)
+      → (j : ℕ) × (T (at set (stageOn p (r .way) j)) → ⊥) × ((x : ℕ) → x < j → T (at set (stageOn p (r .way) x)))
   escape zero s r all d = (0, (λ t. d (subst (λ x. T (at set x)) (r .starts) t)), (λ x l. absurd (not-suc-le-zero l)))
   escape (suc i) s r all d = go (passes (at set s)) (escape i (moveAt p (r .way 0) .enters) (rest p s r) all)
     where
       go : T (at set s) ⊎ (T (at set s) → ⊥)
-          → ((In i (moveAt p (r .way 0) .enters) → ⊥) → (j : ℕ) × (T (at set (stageOn p (next (r .way)) j)) → ⊥) × ((x : ℕ) → x < j → T (at set (stageOn p (next (r .way)) x))))
+          → ((In i (moveAt p (r .way 0) .enters) → ⊥)
+          → (j : ℕ) × (T (at set (stageOn p (next (r .way)) j)) → ⊥)
+          × ((x : ℕ) → x < j → T (at set (stageOn p (next (r .way)) x))))
           → (j : ℕ) × (T (at set (stageOn p (r .way) j)) → ⊥) × ((x : ℕ) → x < j → T (at set (stageOn p (r .way) x)))
       go (inr n) ih = (0, (λ t. n (subst (λ x. T (at set x)) (r .starts) t)), (λ x l. absurd (not-suc-le-zero l)))
       go (inl t) ih =
@@ -182,9 +191,11 @@ module _ (p : Graph) (ok : Sound p) where
   abbrev Late : ℕ → Type 0
   Late c = (s : ℕ) (r : Run p s) → (i : ℕ) × (c ≤ timeOn p i (r .way))
 
-  later : (c : ℕ) → Late c → (i s : ℕ) (r : Run p s) → (In p (ok .from) still every i s → ⊥) → (j : ℕ) × (suc c ≤ timeOn p j (r .way))
+  later : (c : ℕ) → Late c → (i s : ℕ) (r : Run p s) → (In p (ok .from) still every i s → ⊥)
+      → (j : ℕ) × (suc c ≤ timeOn p j (r .way))
   later c ih zero s r d =
-      absurd (d (table-i (λ x. true) (size p) s (subst (λ x. x < size p) (r .starts) (ok .from (r .way 0) (r .real 0))) tt))
+      absurd (d (table-i (λ x. true) (size p) s
+      (subst (λ x. x < size p) (r .starts) (ok .from (r .way 0) (r .real 0))) tt))
   later c ih (suc i) s r d =
       go (passes (still (moveAt p (r .way 0)))) (later c ih i (moveAt p (r .way 0) .enters) (rest p s r))
     where
@@ -192,7 +203,8 @@ module _ (p : Graph) (ok : Sound p) where
       here = table-i (λ x. true) (size p) s (subst (λ x. x < size p) (r .starts) (ok .from (r .way 0) (r .real 0))) tt
 
       go : T (still (moveAt p (r .way 0))) ⊎ (T (still (moveAt p (r .way 0))) → ⊥)
-          → ((In p (ok .from) still every i (moveAt p (r .way 0) .enters) → ⊥) → (j : ℕ) × (suc c ≤ timeOn p j (next (r .way))))
+          → ((In p (ok .from) still every i (moveAt p (r .way 0) .enters) → ⊥)
+          → (j : ℕ) × (suc c ≤ timeOn p j (next (r .way))))
           → (j : ℕ) × (suc c ≤ timeOn p j (r .way))
       go (inl z) on =
           let o = on (λ u. d (in-pull p (ok .from) still every i s here (r .way 0, r .real 0, r .starts, z, u))) in

@@ -1,22 +1,27 @@
 -- Runs and walks.
-use mathlib.Core.Path.{_≡_, refl, sym, _∙_, ap, subst}
-use mathlib.Core.Bool.{Bool, true, false, cond}
-use mathlib.Core.Logic.{_⊎_, inl, inr, ⊎-elim}
-use Prim.Native.Nat.{ℕ, zero, suc, _+_, _≤_, _<_}
-use native.Mathlib.Nat.{not-suc-le-zero, add-zero, zero-add, add-suc}
+use mathlib.Core.Path.{_≡_, sym, _∙_, ap, subst}
+use mathlib.Core.Bool.{Bool}
+use mathlib.Core.Logic.{inl, inr}
+use Prim.Native.Nat.{ℕ, zero, suc, _+_, _<_}
+use native.Mathlib.Nat.{not-suc-le-zero, add-zero, add-suc}
 use native.Mathlib.Omega.{arith}
-use lib.ListN.{length, getD}
 use lib.Dec.{T}
 use Rattle.tctl.specs.Graph.{Graph, Move, size, count, moveAt}
 use Rattle.tctl.specs.Runs.{Run, stageOn, timeOn, Sound}
-use Rattle.tctl.proofs.Reach.{Reach, stop}
+use Rattle.tctl.proofs.Sums.{sum-none}
+use Rattle.tctl.proofs.Reach.{Reach}
 
 abbrev pub next : (ℕ → ℕ) → ℕ → ℕ
 next w j = w (suc j)
 
 -- a run from its second stage on
 abbrev pub rest : (p : Graph) (s : ℕ) (r : Run p s) → Run p (moveAt p (r .way 0) .enters)
-rest p s r = record { way = next (r .way); real = λ i. r .real (suc i); starts = r .joined 0; joined = λ i. r .joined (suc i) }
+rest p s r = record {
+  way = next (r .way);
+  real = λ i. r .real (suc i);
+  starts = r .joined 0;
+  joined = λ i. r .joined (suc i);
+}
 
 abbrev pub put : ℕ → (ℕ → ℕ) → ℕ → ℕ
 put m w zero = m
@@ -41,7 +46,8 @@ pub record Comes (p : Graph) (P G : ℕ → Bool) (Q : ℕ → Type 0) (w : ℕ 
   pub timely : Q (timeOn p place w)
   pub passed : (j : ℕ) → j < place → T (P (stageOn p w j))
 
-pub run-reach : (p : Graph) (P G : ℕ → Bool) (i s : ℕ) (Q : ℕ → Type 0) (r : Run p s) → T (G (stageOn p (r .way) i)) → Q (timeOn p i (r .way)) → ((j : ℕ) → j < i → T (P (stageOn p (r .way) j))) → Reach p P G i s Q
+pub run-reach : (p : Graph) (P G : ℕ → Bool) (i s : ℕ) (Q : ℕ → Type 0) (r : Run p s) → T (G (stageOn p (r .way) i))
+    → Q (timeOn p i (r .way)) → ((j : ℕ) → j < i → T (P (stageOn p (r .way) j))) → Reach p P G i s Q
 run-reach p P G zero s Q r g q h = (subst (λ x. T (G x)) (r .starts) g, q)
 run-reach p P G (suc i) s Q r g q h =
     inr (
@@ -52,13 +58,28 @@ run-reach p P G (suc i) s Q r g q h =
       run-reach p P G i (moveAt p (r .way 0) .enters) _ (rest p s r) g q (λ j l. h (suc j) (omega arith)),
     )
 
-pub reach-run : (p : Graph) → ((s : ℕ) → s < size p → Run p s) → Sound p → (P G : ℕ → Bool) (k s : ℕ) (Q : ℕ → Type 0) → s < size p → Reach p P G k s Q → (r : Run p s) × Comes p P G Q (r .way)
+pub reach-run : (p : Graph) → ((s : ℕ) → s < size p → Run p s) → Sound p → (P G : ℕ → Bool) (k s : ℕ) (Q : ℕ → Type 0)
+    → s < size p → Reach p P G k s Q → (r : Run p s) × Comes p P G Q (r .way)
 reach-run p on ok P G zero s Q l w =
-    let r = on s l in
-    (r, record { place = 0; goal = subst (λ x. T (G x)) (sym (r .starts)) (w .0); timely = w .1; passed = λ j u. absurd (not-suc-le-zero u) })
+    let r = on s l in (
+      r,
+      record {
+        place = 0;
+        goal = subst (λ x. T (G x)) (sym (r .starts)) (w .0);
+        timely = w .1;
+        passed = λ j u. absurd (not-suc-le-zero u);
+      },
+    )
 reach-run p on ok P G (suc k) s Q l (inl w) =
-    let r = on s l in
-    (r, record { place = 0; goal = subst (λ x. T (G x)) (sym (r .starts)) (w .0); timely = w .1; passed = λ j u. absurd (not-suc-le-zero u) })
+    let r = on s l in (
+      r,
+      record {
+        place = 0;
+        goal = subst (λ x. T (G x)) (sym (r .starts)) (w .0);
+        timely = w .1;
+        passed = λ j u. absurd (not-suc-le-zero u);
+      },
+    )
 reach-run p on ok P G (suc k) s Q l (inr w) =
     go (reach-run p on ok P G k (moveAt p (w .0) .enters) _ (ok .to (w .0) (w .1)) (w .4))
   where
@@ -72,7 +93,8 @@ reach-run p on ok P G (suc k) s Q l (inr w) =
         )
 
 -- A run inside X, by moves of Y, if each stage of X has such a move into X.
-module _ (p : Graph) (X Y : ℕ → Type 0) (onward : (s : ℕ) → X s → (m : ℕ) × (m < count p) × (moveAt p m .leaves ≡ s) × Y m × X (moveAt p m .enters)) where
+module _ (p : Graph) (X Y : ℕ → Type 0)
+    (onward : (s : ℕ) → X s → (m : ℕ) × (m < count p) × (moveAt p m .leaves ≡ s) × Y m × X (moveAt p m .enters)) where
   abbrev pub trail : (s : ℕ) → X s → ℕ → (t : ℕ) × X t
   trail s x zero = (s, x)
   trail s x (suc i) = let here = trail s x i in let o = onward (here .0) (here .1) in (moveAt p (o .0) .enters, o .4)
@@ -108,5 +130,4 @@ drop-run p s r i =
     }
 
 pub no-time : (p : Graph) (k : ℕ) (w : ℕ → ℕ) → ((j : ℕ) → moveAt p (w j) .minutes ≡ 0) → timeOn p k w ≡ 0
-no-time p zero w h = refl
-no-time p (suc k) w h = let a = no-time p k (next w) (λ j. h (suc j)) in let b = h 0 in omega arith
+no-time = sum-none (λ (m : Move). m .minutes)

@@ -1,25 +1,25 @@
--- E[f U g].
-use mathlib.Core.Path.{_≡_, refl, sym, _∙_, ap, subst}
-use mathlib.Core.List.{List, [], _∷_}
-use mathlib.Core.Bool.{Bool, true, false, cond}
-use mathlib.Core.Logic.{_⊎_, inl, inr, ⊎-elim}
-use Prim.Native.Nat.{ℕ, zero, suc, _+_, _-_, _≤_, _<_}
-use native.Mathlib.Nat.{not-suc-le-zero, add-zero, zero-add, add-assoc}
+-- Where E[f U g] holds: the lists of the checker have the stages from which some run meets the until.
+use mathlib.Core.Path.{subst}
+use mathlib.Core.List.{List}
+use mathlib.Core.Bool.{Bool}
+use mathlib.Core.Logic.{inl, inr, ⊎-elim}
+use Prim.Native.Nat.{ℕ, zero, suc, _≤_, _<_}
 use native.Mathlib.Omega.{arith}
-use lib.ListN.{length, getD}
-use lib.Dec.{T, leb, leb→le, le→leb, eqb}
-use Rattle.std.proofs.shelf.Tests.{cases-eq, cases-lt}
-use Rattle.tctl.specs.Graph.{Graph, Stage, Move, Open, size, count, stageAt, moveAt}
-use Rattle.tctl.specs.Runs.{Run, stageOn, timeOn, Sound}
+use lib.ListN.{getD}
+use lib.Dec.{T}
+use Rattle.tctl.specs.Graph.{Graph, Open, size, moveAt}
+use Rattle.tctl.specs.Runs.{Run, stageOn, Sound}
 use Rattle.tctl.specs.Rules.{Bound, most, least}
 use Rattle.tctl.specs.Holds.{Meets, Until}
-use Rattle.tctl.specs.Checker.{Entry, none, sum, Kind, shortest, longest, tally, table, at, into, endless, any-move, still, _and_, _or_, non, open?, some?, most?, least?, some-list, each-list}
+use Rattle.tctl.specs.Checker.{Entry, none, shortest, longest, tally, table, at, endless, any-move, _and_, _or_, non}
+use Rattle.tctl.specs.Checker.{open?, some?, most?, least?, some-list}
 use Rattle.tctl.proofs.Basics.{passes, and-l, and-r, and-i, or-e, or-l, or-r, non-e, non-i, table-e, table-i}
-use Rattle.tctl.proofs.Reach.{Reach, stop, widen, within-size}
-use Rattle.tctl.proofs.Tally.{Shows, Closed, tally-e, tally-i}
-use Rattle.tctl.proofs.Runs.{Comes, run-reach, reach-run, some-run, rest, next, put, before}
-use Rattle.tctl.proofs.Endless.{In, Step, in-before, in-step, in-i, in-set, in-pull, fixed, stay, rank, escape, late}
-use Rattle.tctl.proofs.Common.{Tells, open-fits, run-fits, start-fits, some-e, some-i, most-e, most-i, least-e, least-i, time-mono, join, avoid, most-closed, least-closed}
+use Rattle.tctl.proofs.Reach.{Reach, widen, within-size}
+use Rattle.tctl.proofs.Tally.{tally-e, tally-i}
+use Rattle.tctl.proofs.Runs.{run-reach, reach-run, some-run, before}
+use Rattle.tctl.proofs.Endless.{in-set, stay, rank, late}
+use Rattle.tctl.proofs.Common.{Tells, open-fits, run-fits, some-e, some-i, most-e, most-i, least-e, least-i, join}
+use Rattle.tctl.proofs.Common.{avoid, most-closed, least-closed}
 
 module _ (p : Graph) (ok : Sound p) (F G : List Bool) (SF SG : ℕ → Type 0) (tF : Tells p F SF) (tG : Tells p G SG) where
   abbrev pub pass : List Bool
@@ -28,19 +28,23 @@ module _ (p : Graph) (ok : Sound p) (F G : List Bool) (SF SG : ℕ → Type 0) (
   pub pass-i : (x : ℕ) → x < size p → (Open p x → SF x) → T (at pass x)
   pass-i x l h =
       table-i (λ s. non (open? p s) or at F s) (size p) x l
-      (⊎-elim (λ o. or-r (non (open? p x)) (at F x) (tF .full x (h o))) (λ d. or-l (non (open? p x)) (at F x) (non-i (open? p x) d)) (passes (open? p x)))
+      (⊎-elim (λ o. or-r (non (open? p x)) (at F x) (tF .full x (h o)))
+      (λ d. or-l (non (open? p x)) (at F x) (non-i (open? p x) d)) (passes (open? p x)))
 
   pub pass-e : (x : ℕ) → T (at pass x) → Open p x → SF x
   pass-e x t o =
       ⊎-elim (λ d. absurd (non-e (open? p x) d o)) (λ f. tF .sound x f)
       (or-e (non (open? p x)) (at F x) (table-e (λ s. non (open? p s) or at F s) (size p) x t .1))
 
-  pub until-reach : (b : Bound) (s : ℕ) (r : Run p s) (u : Until p SF b SG (r .way)) → Reach p (at pass) (at G) (u .place) s (Meets b)
+  pub until-reach : (b : Bound) (s : ℕ) (r : Run p s) (u : Until p SF b SG (r .way))
+      → Reach p (at pass) (at G) (u .place) s (Meets b)
   until-reach b s r u =
-      run-reach p (at pass) (at G) (u .place) s (Meets b) r (tG .full (stageOn p (r .way) (u .place)) (u .goal)) (u .timely)
+      run-reach p (at pass) (at G) (u .place) s (Meets b) r (tG .full (stageOn p (r .way) (u .place)) (u .goal))
+      (u .timely)
       (λ j l. pass-i (stageOn p (r .way) j) (run-fits p ok s r j) (u .before j l))
 
-  pub reach-until : (b : Bound) (k s : ℕ) → s < size p → Reach p (at pass) (at G) k s (Meets b) → (r : Run p s) × Until p SF b SG (r .way)
+  pub reach-until : (b : Bound) (k s : ℕ) → s < size p → Reach p (at pass) (at G) k s (Meets b)
+      → (r : Run p s) × Until p SF b SG (r .way)
   reach-until b k s l w =
       let o = reach-run p (some-run p ok) ok (at pass) (at G) k s (Meets b) l w in
       let st = stageOn p (o .0 .way) in
@@ -58,9 +62,6 @@ module _ (p : Graph) (ok : Sound p) (F G : List Bool) (SF SG : ℕ → Type 0) (
   abbrev Some : Bound → ℕ → Type 0
   Some b s = Open p s × ((r : Run p s) × Until p SF b SG (r .way))
 
-  entry : Kind → List Bool → ℕ → Entry
-  entry k P s = getD (tally p k P G (size p)) s none
-
   pub some-most : (c : ℕ) → Tells p (some-list p F (most c) G) (Some (most c))
   some-most c = record { sound = sound; full = full; opens = λ s t. t .0 }
     where
@@ -73,7 +74,8 @@ module _ (p : Graph) (ok : Sound p) (F G : List Bool) (SF SG : ℕ → Type 0) (
             and-l (open? p s) (most? c (getD (tally p shortest pass G (size p)) s none)) (h .1),
             reach-until (most c) (size p) s (h .0)
                 (tally-e p ok shortest pass G (size p) s (λ x. x ≤ c) (h .0)
-                (most-e c (getD (tally p shortest pass G (size p)) s none) (and-r (open? p s) (most? c (getD (tally p shortest pass G (size p)) s none)) (h .1)))),
+                (most-e c (getD (tally p shortest pass G (size p)) s none)
+                (and-r (open? p s) (most? c (getD (tally p shortest pass G (size p)) s none)) (h .1)))),
           )
 
       full : (s : ℕ) → Some (most c) s → T (at (table (size p) test) s)
@@ -83,7 +85,8 @@ module _ (p : Graph) (ok : Sound p) (F G : List Bool) (SF SG : ℕ → Type 0) (
           (and-i (open? p s) (most? c (getD (tally p shortest pass G (size p)) s none)) (t .0)
           (most-i c (getD (tally p shortest pass G (size p)) s none)
           (tally-i p ok shortest pass G (size p) s (λ x. x ≤ c) (most-closed c) l
-          (within-size p ok (at pass) (at G) (t .1 .1 .place) s (λ x. x ≤ c) (most-closed c) (until-reach (most c) s (t .1 .0) (t .1 .1))))))
+          (within-size p ok (at pass) (at G) (t .1 .1 .place) s (λ x. x ≤ c) (most-closed c)
+          (until-reach (most c) s (t .1 .0) (t .1 .1))))))
 
   -- E[f U>=c g]
 
@@ -105,7 +108,8 @@ module _ (p : Graph) (ok : Sound p) (F G : List Bool) (SF SG : ℕ → Type 0) (
 
   useful-pass : (s : ℕ) → T (at useful s) → T (at pass s)
   useful-pass s t =
-      and-l (at pass s) (some? (getD reachable s none)) (table-e (λ x. at pass x and some? (getD reachable x none)) (size p) s t .1)
+      and-l (at pass s) (some? (getD reachable s none))
+      (table-e (λ x. at pass x and some? (getD reachable x none)) (size p) s t .1)
 
   useful-reach : (s : ℕ) → T (at useful s) → Reach p (at pass) (at G) (size p) s (λ x. Unit {0})
   useful-reach s t =
@@ -131,7 +135,14 @@ module _ (p : Graph) (ok : Sound p) (F G : List Bool) (SF SG : ℕ → Type 0) (
         w .1,
         w .2,
         reach-useful (suc k) s (subst (λ x. x < size p) (w .2) (ok .from (w .0) (w .1))) (w .3)
-            (inr (w .0, w .1, w .2, w .3, widen p (at pass) (at pass) (at G) (at G) (λ x u. u) (λ x u. u) k (moveAt p (w .0) .enters) _ _ (λ x q. tt) (w .4))),
+            (inr (
+              w .0,
+              w .1,
+              w .2,
+              w .3,
+              widen p (at pass) (at pass) (at G) (at G) (λ x u. u) (λ x u. u) k (moveAt p (w .0) .enters) _ _
+                  (λ x q. tt) (w .4),
+            )),
         by-useful k (moveAt p (w .0) .enters) _ (w .4),
       )
 
@@ -147,17 +158,21 @@ module _ (p : Graph) (ok : Sound p) (F G : List Bool) (SF SG : ℕ → Type 0) (
       by-X : (s : ℕ) → T (at X s) → (k : ℕ) × Reach p (at pass) (at G) k s (λ x. c ≤ x)
       by-X s t =
           let o = stay p (ok .from) any-move useful useful-fits s t in
-          let at-useful : (j : ℕ) → T (at useful (stageOn p (o .0 .way) j)) = λ j. in-set p (ok .from) any-move useful (size p) (stageOn p (o .0 .way) j) (o .1 j .0) in
+          let at-useful : (j : ℕ) → T (at useful (stageOn p (o .0 .way) j)) =
+          λ j. in-set p (ok .from) any-move useful (size p) (stageOn p (o .0 .way) j) (o .1 j .0) in
           let i = late p ok c s (o .0) in
           join p (at pass) (at G) (size p) (i .0) s (o .0) (λ x. c ≤ x)
           (λ j l. useful-pass (stageOn p (o .0 .way) j) (at-useful j))
-          (widen p (at pass) (at pass) (at G) (at G) (λ x u. u) (λ x u. u) (size p) (stageOn p (o .0 .way) (i .0)) _ _ (λ x q. omega (arith, i .1))
+          (widen p (at pass) (at pass) (at G) (at G) (λ x u. u) (λ x u. u) (size p) (stageOn p (o .0 .way) (i .0)) _ _
+          (λ x q. omega (arith, i .1))
           (useful-reach (stageOn p (o .0 .way) (i .0)) (at-useful (i .0))))
 
       by-tally : (s : ℕ) → s < size p → T (least? c (e s)) → (k : ℕ) × Reach p (at pass) (at G) k s (λ x. c ≤ x)
       by-tally s l t = (
         size p,
-        widen p (at outside) (at pass) (at G) (at G) (λ x u. and-l (at pass x) (non (at X x)) (table-e (λ y. at pass y and non (at X y)) (size p) x u .1)) (λ x u. u) (size p) s _ _ (λ x q. q)
+        widen p (at outside) (at pass) (at G) (at G)
+            (λ x u. and-l (at pass x) (non (at X x)) (table-e (λ y. at pass y and non (at X y)) (size p) x u .1))
+            (λ x u. u) (size p) s _ _ (λ x q. q)
             (tally-e p ok longest outside G (size p) s (λ x. c ≤ x) l (least-e c (e s) t)),
       )
 
@@ -165,7 +180,8 @@ module _ (p : Graph) (ok : Sound p) (F G : List Bool) (SF SG : ℕ → Type 0) (
       sound s t =
           let h = table-e test (size p) s t in
           let w : (k : ℕ) × Reach p (at pass) (at G) k s (λ x. c ≤ x) =
-          ⊎-elim (by-X s) (by-tally s (h .0)) (or-e (at X s) (least? c (e s)) (and-r (open? p s) (at X s or least? c (e s)) (h .1))) in
+          ⊎-elim (by-X s) (by-tally s (h .0))
+          (or-e (at X s) (least? c (e s)) (and-r (open? p s) (at X s or least? c (e s)) (h .1))) in
           (and-l (open? p s) (at X s or least? c (e s)) (h .1), reach-until (least c) (w .0) s (h .0) (w .1))
 
       full : (s : ℕ) → Some (least c) s → T (at (table (size p) test) s)
@@ -184,6 +200,7 @@ module _ (p : Graph) (ok : Sound p) (F G : List Bool) (SF SG : ℕ → Type 0) (
           table-i (λ y. at pass y and non (at X y)) (size p) x (useful-fits x v)
           (and-i (at pass x) (non (at X x)) (useful-pass x v) (and-r (at useful x) (non (at X x)) u)))
           (λ x u. u) (size p) s _ _ (λ x q. q)
-          (rank p (ok .from) any-move useful (λ x. at useful x and non (at X x)) (at G) (λ x u. and-l (at useful x) (non (at X x)) u) (λ m. tt) (size p) (t .1 .1 .place) s (λ x. c ≤ x) d
+          (rank p (ok .from) any-move useful (λ x. at useful x and non (at X x)) (at G)
+          (λ x u. and-l (at useful x) (non (at X x)) u) (λ m. tt) (size p) (t .1 .1 .place) s (λ x. c ≤ x) d
           (avoid p ok useful useful-fits (at G) (t .1 .1 .place) s (λ x. c ≤ x) d w))))))
           (passes (at X s))))

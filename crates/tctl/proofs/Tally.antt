@@ -1,19 +1,19 @@
 -- The tally's entry after k turns is the choice over the walks of at most k moves.
-use mathlib.Core.Path.{_≡_, refl, sym, _∙_, ap, subst}
+use mathlib.Core.Path.{_≡_, sym, subst}
 use mathlib.Core.List.{List, [], _∷_}
 use mathlib.Core.Bool.{Bool, true, false, cond}
-use mathlib.Core.Logic.{_⊎_, inl, inr, ⊎-elim, ⊎-map}
+use mathlib.Core.Logic.{_⊎_, inl, inr, ⊎-elim}
 use Prim.Native.Nat.{ℕ, zero, suc, _+_, _≤_, _<_, min, max}
-use native.Mathlib.Nat.{not-suc-le-zero, add-zero, zero-add, le-of-suc-le-suc}
+use native.Mathlib.Nat.{not-suc-le-zero}
 use native.Mathlib.Omega.{arith}
 use lib.ListN.{length, getD}
 use lib.Dec.{T, eqb, eqb→eq, eqb-refl}
-use Rattle.std.proofs.shelf.Tests.{cases-eq, cases-lt}
-use Rattle.tctl.specs.Graph.{Graph, Move, size, count, moveAt}
-use Rattle.tctl.specs.Runs.{Run, stageOn, timeOn, Sound}
-use Rattle.tctl.specs.Checker.{Entry, none, sum, Kind, shortest, longest, pick, choice, after, over, begin, tally, table, at}
-use Rattle.tctl.proofs.Basics.{passes, table-at}
-use Rattle.tctl.proofs.Reach.{Reach, stop}
+use Rattle.std.proofs.shelf.Tests.{cases-lt}
+use Rattle.tctl.specs.Graph.{Graph, Move, size, moveAt}
+use Rattle.tctl.specs.Runs.{Sound}
+use Rattle.tctl.specs.Checker.{Entry, none, sum, Kind, shortest, longest, pick, choice, after, over, begin, tally, at}
+use Rattle.tctl.proofs.Basics.{moveIn, table-at}
+use Rattle.tctl.proofs.Reach.{Reach}
 
 -- the entry is a sum that satisfies Q
 abbrev pub Shows : Entry → (ℕ → Type 0) → Type 0
@@ -64,14 +64,13 @@ after-i : (Q : ℕ → Type 0) (d : ℕ) (u : Entry) → Shows u (λ x. Q (d + x
 after-i Q d none t = t
 after-i Q d (sum a) t = t
 
-abbrev moveIn : List Move → ℕ → Move
-moveIn ms m = getD ms m (record { leaves = 0; minutes = 0; enters = 0 })
-
 abbrev Over : List Move → List Entry → ℕ → (ℕ → Type 0) → Type 0
 Over ms was s Q =
-    (m : ℕ) × (m < length ms) × (moveIn ms m .leaves ≡ s) × Shows (getD was (moveIn ms m .enters) none) (λ x. Q (moveIn ms m .minutes + x))
+    (m : ℕ) × (m < length ms) × (moveIn ms m .leaves ≡ s) × Shows (getD was (moveIn ms m .enters) none)
+    (λ x. Q (moveIn ms m .minutes + x))
 
-over-e : (k : Kind) (Q : ℕ → Type 0) (was : List Entry) (s : ℕ) (ms : List Move) → Shows (over k ms was s) Q → Over ms was s Q
+over-e : (k : Kind) (Q : ℕ → Type 0) (was : List Entry) (s : ℕ) (ms : List Move) → Shows (over k ms was s) Q
+    → Over ms was s Q
 over-e k Q was s [] t = absurd t
 over-e k Q was s (m ∷ ms) t = go (eqb (m .leaves) s) (eqb→eq (m .leaves) s) t (over-e k Q was s ms)
   where
@@ -88,15 +87,19 @@ over-e k Q was s (m ∷ ms) t = go (eqb (m .leaves) s) (eqb→eq (m .leaves) s) 
         (choice-e k Q u (over k ms was s) t)
     go false e t ih = up (ih t)
 
-cond-here : (k : Kind) (Q : ℕ → Type 0) → Closed k Q → (b : Bool) (u v : Entry) → T b → Shows u Q → Shows (cond b (choice k u v) v) Q
+cond-here : (k : Kind) (Q : ℕ → Type 0) → Closed k Q → (b : Bool) (u v : Entry) → T b → Shows u Q
+    → Shows (cond b (choice k u v) v) Q
 cond-here k Q h true u v b t = choice-l k Q h u v t
 cond-here k Q h false u v b t = absurd b
 
-cond-later : (k : Kind) (Q : ℕ → Type 0) → Closed k Q → (b : Bool) (u v : Entry) → Shows v Q → Shows (cond b (choice k u v) v) Q
+cond-later : (k : Kind) (Q : ℕ → Type 0) → Closed k Q → (b : Bool) (u v : Entry) → Shows v Q
+    → Shows (cond b (choice k u v) v) Q
 cond-later k Q h true u v t = choice-r k Q h u v t
 cond-later k Q h false u v t = t
 
-over-i : (k : Kind) (Q : ℕ → Type 0) → Closed k Q → (was : List Entry) (s : ℕ) (ms : List Move) (m : ℕ) → m < length ms → moveIn ms m .leaves ≡ s → Shows (getD was (moveIn ms m .enters) none) (λ x. Q (moveIn ms m .minutes + x)) → Shows (over k ms was s) Q
+over-i : (k : Kind) (Q : ℕ → Type 0) → Closed k Q → (was : List Entry) (s : ℕ) (ms : List Move) (m : ℕ) → m < length ms
+    → moveIn ms m .leaves ≡ s → Shows (getD was (moveIn ms m .enters) none) (λ x. Q (moveIn ms m .minutes + x))
+    → Shows (over k ms was s) Q
 over-i k Q h was s [] m l e t = absurd (not-suc-le-zero l)
 over-i k Q h was s (m ∷ ms) zero l e t =
     cond-here k Q h (eqb (m .leaves) s) (after (m .minutes) (getD was (m .enters) none)) (over k ms was s)
@@ -129,7 +132,8 @@ when-i true u Q b t = t
 when-i false u Q b t = absurd b
 
 -- What an entry shows, a walk has.
-pub tally-e : (p : Graph) → Sound p → (k : Kind) (pass goals : List Bool) (i s : ℕ) (Q : ℕ → Type 0) → s < size p → Shows (getD (tally p k pass goals i) s none) Q → Reach p (at pass) (at goals) i s Q
+pub tally-e : (p : Graph) → Sound p → (k : Kind) (pass goals : List Bool) (i s : ℕ) (Q : ℕ → Type 0) → s < size p
+    → Shows (getD (tally p k pass goals i) s none) Q → Reach p (at pass) (at goals) i s Q
 tally-e p ok k pass goals zero s Q l t =
     begin-e goals s Q (subst (λ e. Shows e Q) (table-at (begin goals) none (size p) s l) t)
 tally-e p ok k pass goals (suc i) s Q l t = go (choice-e k Q (begin goals s) part t′) (tally-e p ok k pass goals i)
@@ -141,7 +145,8 @@ tally-e p ok k pass goals (suc i) s Q l t = go (choice-e k Q (begin goals s) par
     part = cond (at pass s) (over k (p .moves) was s) none
 
     t′ : Shows (choice k (begin goals s) part) Q
-    t′ = subst (λ e. Shows e Q) (table-at (λ x. choice k (begin goals x) (cond (at pass x) (over k (p .moves) was x) none)) none (size p) s l) t
+    t′ = subst (λ e. Shows e Q)
+        (table-at (λ x. choice k (begin goals x) (cond (at pass x) (over k (p .moves) was x) none)) none (size p) s l) t
 
     go : Shows (begin goals s) Q ⊎ Shows part Q
         → ((x : ℕ) (R : ℕ → Type 0) → x < size p → Shows (getD was x none) R → Reach p (at pass) (at goals) i x R)
@@ -153,15 +158,22 @@ tally-e p ok k pass goals (suc i) s Q l t = go (choice-e k Q (begin goals s) par
         inr (o .0, o .1, o .2, c .0, ih (moveAt p (o .0) .enters) _ (ok .to (o .0) (o .1)) (o .3))
 
 -- What a walk has, the entry shows, if the kind keeps it.
-pub tally-i : (p : Graph) → Sound p → (k : Kind) (pass goals : List Bool) (i s : ℕ) (Q : ℕ → Type 0) → Closed k Q → s < size p → Reach p (at pass) (at goals) i s Q → Shows (getD (tally p k pass goals i) s none) Q
+pub tally-i : (p : Graph) → Sound p → (k : Kind) (pass goals : List Bool) (i s : ℕ) (Q : ℕ → Type 0) → Closed k Q
+    → s < size p → Reach p (at pass) (at goals) i s Q → Shows (getD (tally p k pass goals i) s none) Q
 tally-i p ok k pass goals zero s Q h l w =
     subst (λ e. Shows e Q) (sym (table-at (begin goals) none (size p) s l)) (begin-i goals s Q (w .0) (w .1))
 tally-i p ok k pass goals (suc i) s Q h l (inl w) =
-    subst (λ e. Shows e Q) (sym (table-at (λ x. choice k (begin goals x) (cond (at pass x) (over k (p .moves) (tally p k pass goals i) x) none)) none (size p) s l))
-    (choice-l k Q h (begin goals s) (cond (at pass s) (over k (p .moves) (tally p k pass goals i) s) none) (begin-i goals s Q (w .0) (w .1)))
+    subst (λ e. Shows e Q) (sym
+    (table-at (λ x. choice k (begin goals x)
+    (cond (at pass x) (over k (p .moves) (tally p k pass goals i) x) none)) none (size p) s l))
+    (choice-l k Q h (begin goals s) (cond (at pass s) (over k (p .moves) (tally p k pass goals i) s) none)
+    (begin-i goals s Q (w .0) (w .1)))
 tally-i p ok k pass goals (suc i) s Q h l (inr w) =
-    subst (λ e. Shows e Q) (sym (table-at (λ x. choice k (begin goals x) (cond (at pass x) (over k (p .moves) (tally p k pass goals i) x) none)) none (size p) s l))
+    subst (λ e. Shows e Q) (sym
+    (table-at (λ x. choice k (begin goals x)
+    (cond (at pass x) (over k (p .moves) (tally p k pass goals i) x) none)) none (size p) s l))
     (choice-r k Q h (begin goals s) (cond (at pass s) (over k (p .moves) (tally p k pass goals i) s) none)
     (when-i (at pass s) (over k (p .moves) (tally p k pass goals i) s) Q (w .3)
     (over-i k Q h (tally p k pass goals i) s (p .moves) (w .0) (w .1) (w .2)
-    (tally-i p ok k pass goals i (moveAt p (w .0) .enters) _ (closed-after k Q (moveAt p (w .0) .minutes) h) (ok .to (w .0) (w .1)) (w .4)))))
+    (tally-i p ok k pass goals i (moveAt p (w .0) .enters) _ (closed-after k Q (moveAt p (w .0) .minutes) h)
+    (ok .to (w .0) (w .1)) (w .4)))))

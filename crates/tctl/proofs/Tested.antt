@@ -1,18 +1,18 @@
--- The test of a program is right.
+-- The test of a graph is right.
 use mathlib.Core.Path.{_≡_, refl, sym, _∙_, ap, subst}
-use mathlib.Core.List.{List, [], _∷_}
-use mathlib.Core.Bool.{Bool, true, false}
+use mathlib.Core.List.{List}
+use mathlib.Core.Bool.{Bool, true}
 use mathlib.Core.Logic.{_⊎_, inl, inr, ⊎-elim}
-use Prim.Native.Nat.{ℕ, zero, suc, _+_, _≤_, _<_}
+use Prim.Native.Nat.{ℕ, zero, suc, _<_}
 use native.Mathlib.Nat.{not-suc-le-zero}
 use native.Mathlib.Omega.{arith}
-use lib.Dec.{T, ltb, ltb→lt, lt→ltb, eqb, eqb-refl}
+use lib.Dec.{T, ltb, ltb→lt, lt→ltb, eqb}
 use Rattle.std.proofs.shelf.Tests.{cases-eq, cases-lt}
-use Rattle.tctl.specs.Graph.{Graph, Move, size, count, moveAt}
+use Rattle.tctl.specs.Graph.{Graph, size, count, moveAt}
 use Rattle.tctl.specs.Runs.{Run, stageOn, timeOn, Sound}
-use Rattle.tctl.specs.Checker.{table, at, into, endless, any-move, still, _and_, _or_, non, all-below, sound?}
+use Rattle.tctl.specs.Checker.{table, at, into, endless, any-move, still, _and_, non, all-below, sound?}
 use Rattle.tctl.specs.Theorems.{Test-right}
-use Rattle.tctl.proofs.Basics.{passes, and-l, and-r, and-i, non-e, non-i, table-e, table-i}
+use Rattle.tctl.proofs.Basics.{and-l, and-r, and-i, non-e, non-i, table-i}
 use Rattle.tctl.proofs.Runs.{next}
 use Rattle.tctl.proofs.Endless.{In, in-pull, into-e, into-i, moving}
 
@@ -48,9 +48,11 @@ module _ (p : Graph) where
   moves s = non (at (endless p still every n) s)
 
   -- a cycle that takes no time is never removed
-  cycle-stays : (from : (m : ℕ) → m < count p → moveAt p m .leaves < n) (s : ℕ) (r : Run p s) (i : ℕ) → stageOn p (r .way) (suc i) ≡ s → timeOn p (suc i) (r .way) ≡ 0
+  cycle-stays : (from : (m : ℕ) → m < count p → moveAt p m .leaves < n) (s : ℕ) (r : Run p s) (i : ℕ)
+      → stageOn p (r .way) (suc i) ≡ s → timeOn p (suc i) (r .way) ≡ 0
       → (k j : ℕ) → j < suc i → In p from still every k (stageOn p (r .way) j)
-  cycle-stays from s r i back none zero j l = table-i (λ x. true) n (stageOn p (r .way) j) (from (r .way j) (r .real j)) tt
+  cycle-stays from s r i back none zero j l = table-i (λ x. true) n (stageOn p (r .way) j)
+      (from (r .way j) (r .real j)) tt
   cycle-stays from s r i back none (suc k) j l =
       go (cases-eq j i) (cycle-stays from s r i back none k)
     where
@@ -67,7 +69,8 @@ module _ (p : Graph) where
             subst (In p from still every k) (r .joined j) t,
           )
 
-      go : (j ≡ i) ⊎ (j ≡ i → ⊥) → ((x : ℕ) → x < suc i → In p from still every k (st x)) → In p from still every (suc k) (st j)
+      go : (j ≡ i) ⊎ (j ≡ i → ⊥) → ((x : ℕ) → x < suc i → In p from still every k (st x))
+          → In p from still every (suc k) (st j)
       go (inl e) ih =
           let z : st 0 ≡ st (suc j) = r .starts ∙ sym back ∙ ap (λ x. st (suc x)) (sym e) in
           pull (subst (In p from still every k) z (ih 0 (omega arith)))
@@ -83,14 +86,17 @@ module _ (p : Graph) where
       t₂ = and-r (all-below (count p) ends) (all-below n goes and all-below n moves) t
 
       from : (m : ℕ) → m < count p → moveAt p m .leaves < n
-      from m l = ltb→lt (moveAt p m .leaves) n (and-l (ltb (moveAt p m .leaves) n) (ltb (moveAt p m .enters) n) (all-e ends (count p) t₁ m l))
+      from m l = ltb→lt (moveAt p m .leaves) n
+          (and-l (ltb (moveAt p m .leaves) n) (ltb (moveAt p m .enters) n) (all-e ends (count p) t₁ m l))
 
       to : (m : ℕ) → m < count p → moveAt p m .enters < n
-      to m l = ltb→lt (moveAt p m .enters) n (and-r (ltb (moveAt p m .leaves) n) (ltb (moveAt p m .enters) n) (all-e ends (count p) t₁ m l))
+      to m l = ltb→lt (moveAt p m .enters) n
+          (and-r (ltb (moveAt p m .leaves) n) (ltb (moveAt p m .enters) n) (all-e ends (count p) t₁ m l))
 
       onward : (s : ℕ) → s < n → (m : ℕ) × (m < count p) × (moveAt p m .leaves ≡ s)
       onward s l =
-          let o = into-e any-move every s (p .moves) (all-e goes n (and-l (all-below n goes) (all-below n moves) t₂) s l) in (o .0, o .1, o .2)
+          let o = into-e any-move every s (p .moves)
+          (all-e goes n (and-l (all-below n goes) (all-below n moves) t₂) s l) in (o .0, o .1, o .2)
 
       passing : (s : ℕ) (r : Run p s) (i : ℕ) → stageOn p (r .way) (suc i) ≡ s → 0 < timeOn p (suc i) (r .way)
       passing s r i back =
@@ -99,16 +105,20 @@ module _ (p : Graph) where
           let none : timeOn p (suc i) (r .way) ≡ 0 = omega arith in
           let x = stageOn p (r .way) 0 in
           absurd
-          (non-e (at (endless p still every n) x) (all-e moves n (and-r (all-below n goes) (all-below n moves) t₂) x (from (r .way 0) (r .real 0)))
+          (non-e (at (endless p still every n) x)
+          (all-e moves n (and-r (all-below n goes) (all-below n moves) t₂) x (from (r .way 0) (r .real 0)))
           (cycle-stays from s r i back none n 0 (omega arith))))
           (cases-lt 0 (timeOn p (suc i) (r .way)))
 
   sound-i : Sound p → T (sound? p)
   sound-i ok =
       and-i (all-below (count p) ends) (all-below n goes and all-below n moves)
-      (all-i ends (count p) (λ m l. and-i (ltb (moveAt p m .leaves) n) (ltb (moveAt p m .enters) n) (lt→ltb (moveAt p m .leaves) n (ok .from m l)) (lt→ltb (moveAt p m .enters) n (ok .to m l))))
+      (all-i ends (count p) (λ m l. and-i (ltb (moveAt p m .leaves) n) (ltb (moveAt p m .enters) n)
+      (lt→ltb (moveAt p m .leaves) n (ok .from m l)) (lt→ltb (moveAt p m .enters) n (ok .to m l))))
       (and-i (all-below n goes) (all-below n moves)
-      (all-i goes n (λ s l. let o = ok .onward s l in into-i any-move every s (p .moves) (o .0) (o .1) (o .2) tt (table-i (λ x. true) n (moveAt p (o .0) .enters) (ok .to (o .0) (o .1)) tt)))
+      (all-i goes n (λ s l. let o = ok .onward s l in
+      into-i any-move every s (p .moves) (o .0) (o .1) (o .2) tt
+      (table-i (λ x. true) n (moveAt p (o .0) .enters) (ok .to (o .0) (o .1)) tt)))
       (all-i moves n (λ s l. non-i (at (endless p still every n) s) (moving p ok s))))
 
 pub test-right : Test-right

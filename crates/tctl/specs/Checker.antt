@@ -1,9 +1,9 @@
 -- The checker, as a definition that computes: sets and tallies are lists, an entry for each stage.
-use mathlib.Core.List.{List, [], _∷_, map}
+use mathlib.Core.List.{List, [], _∷_}
 use mathlib.Core.Bool.{Bool, true, false, cond}
-use Prim.Native.Nat.{ℕ, zero, suc, _+_, _-_, _≤_, _<_, min, max}
-use lib.ListN.{length, getD}
-use lib.Dec.{T, leb, ltb, eqb}
+use Prim.Native.Nat.{ℕ, zero, suc, _+_, _-_, min, max}
+use lib.ListN.{getD}
+use lib.Dec.{leb, ltb, eqb}
 use Rattle.tctl.specs.Graph.{Graph, Move, stageAt, moveAt, size, count}
 use Rattle.tctl.specs.Rules.{Rule, Bound, one, letter, not, both, either, some-run, each-run, most, least}
 use Rattle.tctl.specs.Holds.{marked}
@@ -56,7 +56,8 @@ after d (sum a) = sum (d + a)
 abbrev pub over : Kind → List Move → List Entry → ℕ → Entry
 over k [] was s = none
 over k (m ∷ ms) was s =
-    cond (eqb (m .leaves) s) (choice k (after (m .minutes) (getD was (m .enters) none)) (over k ms was s)) (over k ms was s)
+    cond (eqb (m .leaves) s) (choice k (after (m .minutes) (getD was (m .enters) none)) (over k ms was s))
+    (over k ms was s)
 
 abbrev pub begin : List Bool → ℕ → Entry
 begin goals s = cond (getD goals s false) (sum 0) none
@@ -135,7 +136,8 @@ each-list p f (least c) g =
     let x = endless p any-move N n in
     let v = table n (λ s. some? (getD r s none) or at x s) in
     let P = table n (λ s. non (open? p s) or at f s) in
-    let t = tally p shortest P (table n (λ s. (open? p s and non (at f s)) or (at P s and into any-move (p .moves) v s))) n in
+    let t = tally p shortest P
+    (table n (λ s. (open? p s and non (at f s)) or (at P s and into any-move (p .moves) v s))) n in
     table n (λ s. open? p s and non (at v s or (leb 1 c and most? (c - 1) (getD t s none))))
 
 -- The stages at which a rule holds.
@@ -154,7 +156,7 @@ abbrev pub all-below : ℕ → (ℕ → Bool) → Bool
 all-below zero f = true
 all-below (suc n) f = f n and all-below n f
 
--- Whether a program is as the checked ones must be.
+-- Whether a graph is as the checked ones must be.
 abbrev pub sound? : Graph → Bool
 sound? p =
     let n = size p in
@@ -164,7 +166,7 @@ sound? p =
     and all-below n (λ s. into any-move (p .moves) every s)
     and all-below n (λ s. non (at still-for-ever s))
 
--- Sums that stop at a cap, as a program's words do.
+-- Sums that stop at a cap, as the words of a machine do.
 abbrev pub after-cap : ℕ → ℕ → Entry → Entry
 after-cap top d none = none
 after-cap top d (sum a) = sum (min top (d + a))
@@ -172,7 +174,9 @@ after-cap top d (sum a) = sum (min top (d + a))
 abbrev pub over-cap : ℕ → Kind → List Move → List Entry → ℕ → Entry
 over-cap top k [] was s = none
 over-cap top k (m ∷ ms) was s =
-    cond (eqb (m .leaves) s) (choice k (after-cap top (m .minutes) (getD was (m .enters) none)) (over-cap top k ms was s)) (over-cap top k ms was s)
+    cond (eqb (m .leaves) s)
+    (choice k (after-cap top (m .minutes) (getD was (m .enters) none)) (over-cap top k ms was s))
+    (over-cap top k ms was s)
 
 abbrev pub tally-cap : ℕ → Graph → Kind → List Bool → List Bool → ℕ → List Entry
 tally-cap top p k pass goals zero = table (size p) (begin goals)

@@ -3,6 +3,6 @@ pub mod Runs
 pub mod Rules
 pub mod Holds
 pub mod Checker
-pub mod Example
+pub mod Greatest
 pub mod Refine
 pub mod Theorems

@@ -1,7 +1,7 @@
 -- Runs of a timed graph, and what a graph has to be so that its rules can be checked.
 use mathlib.Core.Path.{_≡_}
 use Prim.Native.Nat.{ℕ, zero, suc, _+_, _<_}
-use Rattle.tctl.specs.Graph.{Graph, size, count, moveAt}
+use Rattle.tctl.specs.Graph.{Graph, Move, size, count, moveAt}
 
 -- A run from s: an endless walk. It makes move number `way 0` first, then `way 1`, and so on.
 pub record Run (p : Graph) (s : ℕ) : Type 0 where
@@ -14,10 +14,14 @@ pub record Run (p : Graph) (s : ℕ) : Type 0 where
 abbrev pub stageOn : Graph → (ℕ → ℕ) → ℕ → ℕ
 stageOn p w i = moveAt p (w i) .leaves
 
+-- The sum of a weight over the first i moves of a way.
+abbrev pub sumOn : (Move → ℕ) → Graph → ℕ → (ℕ → ℕ) → ℕ
+sumOn weight p zero w = 0
+sumOn weight p (suc i) w = weight (moveAt p (w 0)) + sumOn weight p i (λ j. w (suc j))
+
 -- The minutes that the first i moves of a way take.
 abbrev pub timeOn : Graph → ℕ → (ℕ → ℕ) → ℕ
-timeOn p zero w = 0
-timeOn p (suc i) w = moveAt p (w 0) .minutes + timeOn p i (λ j. w (suc j))
+timeOn p i w = sumOn (λ (m : Move). m .minutes) p i w
 
 -- Each move joins two stages.
 pub record Ends (p : Graph) : Type 0 where

@@ -1,11 +1,16 @@
+use mathlib.Core.List.{[]}
 use native.Mathlib.Omega.{arith}
 use Rattle.reader.proofs.Steps.{trailing}
+use Rattle.reader.proofs.Readings.{reading-to}
 use Rattle.reader.proofs.Whole.{whole, large, small, few, many, kept, formed}
 use Rattle.reader.proofs.read.Needs as need
 
+pub returns-in-rest : need.returns-in-rest
+returns-in-rest c = (omega arith, λ f r. let p = reading-to r in c .in-rest .ensures tt (p .0) [] (p .1) (tt, tt))
+
 pub returns-in-Some-next-sign : need.returns-in-Some-next-sign
 returns-in-Some-next-sign c =
-    (omega arith, λ f r. trailing (c .in-Some .ensures tt) (c .in-Some-next-sign .ensures tt .2) (r .0) (r .1))
+    (omega arith, λ f r. let p = reading-to r in trailing (c .in-Some .ensures tt) (c .in-Some-next-sign .ensures tt .2) (p .0) (p .1))
 
 pub returns-then-draft : need.returns-then-draft
 returns-then-draft c =

@@ -1,14 +1,16 @@
 // The records of a tray as bytes. A stage: its marks (two bytes), its kind, a zero.
-// A move: the stage it leaves, the stage it enters, its minutes, a zero (two bytes each). Numbers have their lower byte first.
+// A move: the stage it leaves, the stage it enters, its minutes, a zero (two bytes each).
+// Numbers have their lower byte first.
 ghost use mathlib.Core.Path.{_≡_};
 ghost use Prim.Native.Nat.{_+_, _*_, _<_, _≤_};
 ghost use lib.ListN.{drop};
 ghost use Rattle.std.specs.Of.Vec.{vec-items, vec-len};
-ghost use Rattle.stores.specs.Areas.{put};
+ghost use Rattle.stores.specs.Trays.{StagePut, MovePut};
 ghost use Rattle.stores.specs.Records.{kindByte, readKind, stageRecord, moveRecord, readStage, readMove};
-use crate::tray::areas::low_high;
-use crate::tray::areas::number_at;
-use crate::tray::areas::put;
+use crate::tray::areas::Areas;
+use crate::tray::bytes::low_high;
+use crate::tray::bytes::number_at;
+use crate::tray::bytes::put;
 use program::Kind;
 use program::Move;
 use program::Stage;
@@ -60,24 +62,23 @@ fn move_record(laid: Move) -> [u8; MOVE_BYTES]
     ]
 }
 
-// Writes the record of number n.
-pub fn put_stage(area: &mut Vec<u8>, n: usize, stage: Stage)
-    requires { ⌜ 4 * n + 4 ≤ vec-len (now area) ⌝ }
-    ensures items { λ _. ⌜ vec-items (now (area .exit)) ≡ put (vec-items (now (area .entry))) (4 * n) (stageRecord stage) ⌝ }
-    ensures len { λ _. ⌜ vec-len (now (area .exit)) ≡ vec-len (now (area .entry)) ⌝ }
+// Writes the stage of number n, and leaves every other byte.
+pub fn put_stage(areas: &mut Areas, n: usize, stage: Stage)
+    requires { ⌜ 4 * n + 4 ≤ vec-len (now areas .stages) ⌝ }
+    ensures { λ _. ⌜ StagePut (now (areas .entry)) n stage (now (areas .exit)) ⌝ }
 {
-    put(area, STAGE_BYTES * n, &stage_record(stage));
+    put(&mut areas.stages, STAGE_BYTES * n, &stage_record(stage));
 }
 
-pub fn put_move(area: &mut Vec<u8>, n: usize, laid: Move)
-    requires { ⌜ 8 * n + 8 ≤ vec-len (now area) ⌝ }
-    ensures items { λ _. ⌜ vec-items (now (area .exit)) ≡ put (vec-items (now (area .entry))) (8 * n) (moveRecord laid) ⌝ }
-    ensures len { λ _. ⌜ vec-len (now (area .exit)) ≡ vec-len (now (area .entry)) ⌝ }
+// Writes the move of number n, and leaves every other byte.
+pub fn put_move(areas: &mut Areas, n: usize, laid: Move)
+    requires { ⌜ 8 * n + 8 ≤ vec-len (now areas .moves) ⌝ }
+    ensures { λ _. ⌜ MovePut (now (areas .entry)) n laid (now (areas .exit)) ⌝ }
 {
-    put(area, MOVE_BYTES * n, &move_record(laid));
+    put(&mut areas.moves, MOVE_BYTES * n, &move_record(laid));
 }
 
-// Reads the record of number n.
+// The stage of number n.
 pub fn read_stage(area: &Vec<u8>, n: usize) -> Stage
     requires { ⌜ 4 * n + 4 ≤ vec-len (now area) ⌝ }
     ensures { λ r. ⌜ r ≡ readStage (drop (4 * n) (vec-items (now (area .entry)))) ⌝ }
@@ -89,6 +90,7 @@ pub fn read_stage(area: &Vec<u8>, n: usize) -> Stage
     }
 }
 
+// The move of number n.
 pub fn read_move(area: &Vec<u8>, n: usize) -> Move
     requires { ⌜ 8 * n + 8 ≤ vec-len (now area) ⌝ }
     ensures { λ r. ⌜ r ≡ readMove (drop (8 * n) (vec-items (now (area .entry)))) ⌝ }

@@ -1,7 +1,7 @@
 use mathlib.Core.Path.{refl, sym, _∙_}
 use native.Mathlib.Omega.{arith}
 use lib.ListN.{length}
-use Rattle.check.specs.Outcomes.{Memory}
+use Rattle.check.specs.Outcomes.{memory}
 use Rattle.check.proofs.Finds.{sound-if, enough-if, short-if}
 use Rattle.check.proofs.rows.check_rows.Needs as need
 
@@ -12,13 +12,9 @@ returns-in-Some-still-stage c =
 
 pub returns-then-not-has-room : need.returns-then-not-has-room
 returns-then-not-has-room c =
-    let was : Memory =
-    record {
-      sheet = c .args .sheet .now;
-      reached = c .args .reached .now;
-      shortest = c .args .shortest .now;
-      longest = c .args .longest .now;
-    } in (
+    let was =
+    memory (c .args .sheet .now) (c .args .reached .now) (c .args .shortest .now)
+    (c .args .longest .now) in (
       (
         record { some = omega arith; onward = c .in-rest .ensures tt; moving = c .in-rest-still-stage .ensures tt },
         short-if (length (c .args .stages .now)) was (sym (c .if-not-has-room .ensures tt)),
@@ -28,13 +24,9 @@ returns-then-not-has-room c =
 
 pub check-lines-requires : need.check-lines-requires
 check-lines-requires c κs =
-    let was : Memory =
-    record {
-      sheet = c .args .sheet .now;
-      reached = c .args .reached .now;
-      shortest = c .args .shortest .now;
-      longest = c .args .longest .now;
-    } in
+    let was =
+    memory (c .args .sheet .now) (c .args .reached .now) (c .args .shortest .now)
+    (c .args .longest .now) in
     let enough = enough-if (length (c .args .stages .now)) was (sym (c .has-room .ensures) ∙ c .if-not-has-room .left)
     in
     record {
@@ -53,13 +45,9 @@ check-lines-requires c κs =
 pub returns : need.returns
 returns c =
     let all = c .check-lines .ensures in
-    let was : Memory =
-    record {
-      sheet = c .args .sheet .now;
-      reached = c .args .reached .now;
-      shortest = c .args .shortest .now;
-      longest = c .args .longest .now;
-    } in (
+    let was =
+    memory (c .args .sheet .now) (c .args .reached .now) (c .args .shortest .now)
+    (c .args .longest .now) in (
       (
         record { some = omega arith; onward = c .in-rest .ensures tt; moving = c .in-rest-still-stage .ensures tt },
         enough-if (length (c .args .stages .now)) was (sym (c .has-room .ensures) ∙ c .if-not-has-room .left),

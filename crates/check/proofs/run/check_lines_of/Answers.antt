@@ -7,7 +7,7 @@ use Rattle.program.specs.declared.Move.{Move}
 use Rattle.program.specs.Meaning.{mostStages}
 use Rattle.tally.specs.Rounds.{Within}
 use Rattle.sheet.specs.Rows.{prog}
-use Rattle.check.specs.Outcomes.{Memory, Outcome}
+use Rattle.check.specs.Outcomes.{memory, Outcome}
 use Rattle.check.proofs.run.check_lines_of.Needs as need
 
 pub check-rows-requires : need.check-rows-requires
@@ -36,20 +36,12 @@ returns g c =
     ap (λ x. take x (c .copy-stages .last .stages)) (c .stage-count .ensures) ∙ c .copy-stages .ensures in
     let mv : take (c .move-count .result) (c .copy-moves .last .moves) ≡ p .moves =
     ap (λ x. take x (c .copy-moves .last .moves)) (c .move-count .ensures) ∙ c .copy-moves .ensures in
-    let was : Memory =
-    record {
-      sheet = c .args .sheet .now;
-      reached = c .args .reached .now;
-      shortest = c .args .shortest .now;
-      longest = c .args .longest .now;
-    } in
-    let after : Memory =
-    record {
-      sheet = c .check-rows .last .sheet;
-      reached = c .check-rows .last .reached;
-      shortest = c .check-rows .last .shortest;
-      longest = c .check-rows .last .longest;
-    } in
+    let was =
+    memory (c .args .sheet .now) (c .args .reached .now) (c .args .shortest .now)
+    (c .args .longest .now) in
+    let after =
+    memory (c .check-rows .last .sheet) (c .check-rows .last .reached) (c .check-rows .last .shortest)
+    (c .check-rows .last .longest) in
     subst (λ (y : List Move). Outcome (prog (p .stages) y) (c .args .lines .now) was after (c .check-rows .result)) mv
     (subst (λ (x : List Stage). Outcome (prog x (take (c .move-count .result) (c .copy-moves .last .moves)))
     (c .args .lines .now) was after (c .check-rows .result)) st (c .check-rows .ensures))

@@ -10,8 +10,13 @@ use Rattle.stores.proofs.tray.records.read_stage.Needs as need
 
 pub returns : need.returns
 returns c =
-    let bs = c .args .area .now .items in
+    let area = c .args .area .now in
+    let bs = area .items in
     let at = 4 * c .args .n in
-    let marks : c .number-at .result ≡ numberAt (drop at bs) 0 = c .number-at .ensures ∙ sym (numberAt-drop-first at bs) in
-    let kind : c .read-kind .result ≡ readKind (getD (drop at bs) 2 0) = c .read-kind .ensures ∙ ap readKind (getD-read-under bs (at + 2) (c .args .area .now .len) _ 0 (c .index .ensures) (omega arith) (c .args .area .now .ok .0) ∙ sym (getD-drop at bs 2 0)) in
+    let marks : c .number-at .result ≡ numberAt (drop at bs) 0 =
+    c .number-at .ensures ∙ sym (numberAt-drop-first at bs) in
+    let byte : c .index .result .now ≡ getD (drop at bs) 2 0 =
+    getD-read-under bs (at + 2) (area .len) _ 0 (c .index .ensures) (omega arith) (area .ok .0)
+    ∙ sym (getD-drop at bs 2 0) in
+    let kind : c .read-kind .result ≡ readKind (getD (drop at bs) 2 0) = c .read-kind .ensures ∙ ap readKind byte in
     cc

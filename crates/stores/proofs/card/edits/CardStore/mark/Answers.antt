@@ -11,6 +11,7 @@ returns c =
     let card = c .args .self .now in
     let allowed = c .in-Continue-open-stage .ensures tt in
     let h : c .args .stage < card .stages .count = omega (arith, simp length-take at (allowed .stage)) in
-    let marked = card-marked (card .stages) (card .moves) (c .args .stage) (c .args .marks) h in
+    let moves = card .moves in
+    let marked = card-marked _ (moves .count) (card .stages .records) (moves .records) _ (c .args .marks) h in
     let does = marks-one _ _ _ _ (allowed .stage) (allowed .shown) marked in
     record { does = simp (c .set-marks .ensures) does; kept = refl }

@@ -13,14 +13,14 @@ pub ghost-self : need.ghost-self
 ghost-self c =
     let card = c .args .self .now in
     let h : card .stages .count < length (card .stages .records) = omega arith in
-    let ends = ends-kept-by-open _ _ (c .args .marks) (card-opened (card .stages) (card .moves) (c .args .marks) h) (card .ends) in
+    let opened = card-opened _ (card .moves .count) _ (card .moves .records) (c .args .marks) h in
+    let ends = ends-kept-by-open _ _ (c .args .marks) opened (card .ends) in
     (simp length-set (card .«stage_table»), (card .«move_table», (omega arith, (card .«move_room», (ends, tt)))))
 
 pub returns : need.returns
 returns c =
     let card = c .args .self .now in
     let h : card .stages .count < length (card .stages .records) = omega arith in
-    record {
-      does = opens cardCaps _ _ _ _ (length-take-le _ _ (omega arith)) (c .if-n-ge-CARD-STAGES .left) (card-opened (card .stages) (card .moves) _ h);
-      kept = refl;
-    }
+    let opened = card-opened _ (card .moves .count) _ (card .moves .records) (c .args .marks) h in
+    let n = length-take-le (card .stages .count) (card .stages .records) (omega arith) in
+    record { does = opens cardCaps _ _ _ _ n (omega arith) opened; kept = refl }

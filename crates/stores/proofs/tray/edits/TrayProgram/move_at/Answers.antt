@@ -13,5 +13,6 @@ returns-then-k-self c = c .read-move .ensures ∙ sym (getD-inUse moveLayout _ _
 pub returns-else-k-self : need.returns-else-k-self
 returns-else-k-self c =
     let tray = c .args .self .now in
-    let bs = tray .moves .now .items in
-    sym (getD-past (inUse moveLayout (tray .«move_count») bs) _ noMove (omega (arith, length-inUse moveLayout (tray .«move_count») bs)))
+    let bs = tray .areas .now .moves .items in
+    let n = tray .«move_count» in
+    sym (getD-past (inUse moveLayout n bs) _ noMove (omega (arith, length-inUse moveLayout n bs)))

@@ -13,5 +13,6 @@ returns-then-s-self c = c .read-stage .ensures ∙ sym (getD-inUse stageLayout _
 pub returns-else-s-self : need.returns-else-s-self
 returns-else-s-self c =
     let tray = c .args .self .now in
-    let bs = tray .stages .now .items in
-    sym (getD-past (inUse stageLayout (tray .«stage_count») bs) _ noStage (omega (arith, length-inUse stageLayout (tray .«stage_count») bs)))
+    let bs = tray .areas .now .stages .items in
+    let n = tray .«stage_count» in
+    sym (getD-past (inUse stageLayout n bs) _ noStage (omega (arith, length-inUse stageLayout n bs)))

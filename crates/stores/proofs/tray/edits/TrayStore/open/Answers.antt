@@ -1,13 +1,10 @@
-use mathlib.Core.Path.{refl, ap}
-use Prim.Native.Nat.{_+_}
+use mathlib.Core.Path.{refl}
 use native.Mathlib.Omega.{arith}
-use Rattle.std.specs.Of.Vec.{vec-items, vec-len}
-use Rattle.program.specs.Edits.{withStage}
 use Rattle.program.proofs.Doing.{opens}
 use Rattle.stores.specs.Records.{stageLayout}
-use Rattle.stores.specs.Trays.{trayProg, trayCaps}
+use Rattle.stores.specs.Trays.{areasRoom}
 use Rattle.stores.proofs.Areas.{length-inUse}
-use Rattle.stores.proofs.Trays.{Edited, tray-opened}
+use Rattle.stores.proofs.Trays.{tray-opened, stage-put-long, same-room}
 use Rattle.stores.proofs.Refusals.{open-full}
 use Rattle.stores.proofs.Kept.{ends-kept-by-open}
 use Rattle.stores.proofs.tray.edits.TrayStore.open.Needs as need
@@ -15,25 +12,33 @@ use Rattle.stores.proofs.tray.edits.TrayStore.open.Needs as need
 pub returns-then-n-stage-capacity : need.returns-then-n-stage-capacity
 returns-then-n-stage-capacity c =
     let tray = c .args .self .now in
-    let n = length-inUse stageLayout (tray .«stage_count») (tray .stages .now .items) in
-    let caps = trayCaps (vec-len (tray .stages .now)) (vec-len (tray .moves .now)) in
-    record { does = open-full caps _ _ (omega (arith, n, c .stage-capacity .ensures)); kept = refl; stays = record { stage-loan = refl; move-loan = refl; stage-bytes = refl; move-bytes = refl } }
+    let n = length-inUse stageLayout (tray .«stage_count») (tray .areas .now .stages .items) in
+    record {
+      does = open-full (areasRoom (tray .areas .now)) _ _ (omega (arith, n, c .stage-capacity .ensures));
+      kept = refl;
+      stays = record { loan = refl; long = record { stages = refl; moves = refl } };
+    }
 
 pub ghost-self : need.ghost-self
 ghost-self c =
     let tray = c .args .self .now in
-    let opened = tray-opened _ (tray .«move_count») _ (tray .moves .now .items) _ _ (tray .«stage_area») (c .put-stage .ensures .items) in
+    let put = c .put-stage .ensures in
+    let opened = tray-opened _ _ _ (tray .«stage_area») (tray .«move_area») _ _ put in
+    let long = stage-put-long _ _ _ _ put in
     let ends = ends-kept-by-open _ _ (c .args .marks) (opened .is) (tray .ends) in
-    (opened .holds, (tray .«move_area», (omega (arith, c .put-stage .ensures .len, c .stage-capacity .ensures), (tray .«move_room», (ends, tt)))))
+    let room = c .stage-capacity .ensures in
+    (opened .stage-area, (opened .move-area, (omega (arith, room), (omega arith, (ends, tt)))))
 
 pub returns : need.returns
 returns c =
     let tray = c .args .self .now in
-    let caps = trayCaps (vec-len (tray .stages .now)) (vec-len (tray .moves .now)) in
-    let opened = tray-opened _ (tray .«move_count») _ (tray .moves .now .items) _ _ (tray .«stage_area») (c .put-stage .ensures .items) in
-    let n = length-inUse stageLayout (tray .«stage_count») (tray .stages .now .items) in
+    let put = c .put-stage .ensures in
+    let opened = tray-opened _ _ _ (tray .«stage_area») (tray .«move_area») _ _ put in
+    let long = stage-put-long _ _ _ _ put in
+    let n = length-inUse stageLayout (tray .«stage_count») (tray .areas .now .stages .items) in
+    let room = c .stage-capacity .ensures in
     record {
-      does = opens caps _ _ _ _ n (omega (arith, c .stage-capacity .ensures)) (opened .is);
-      kept = ap (λ len. trayCaps len (vec-len (tray .moves .now))) (c .put-stage .ensures .len);
-      stays = record { stage-loan = refl; move-loan = refl; stage-bytes = c .put-stage .ensures .len; move-bytes = refl };
+      does = opens (areasRoom (tray .areas .now)) _ _ _ _ n (omega (arith, room)) (opened .is);
+      kept = same-room _ _ long;
+      stays = record { loan = refl; long = long };
     }
