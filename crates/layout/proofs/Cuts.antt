@@ -8,7 +8,8 @@ use native.Mathlib.Omega.{arith}
 use lib.Dec.{eqb}
 use lib.ListN.{length, getD, take, drop}
 use borrow.Author.Tests.{eqb-false, both-ways}
-use Rattle.std.proofs.shelf.Lists.{take-append-drop, drop-more, take-rest, getD-take, length-take-le, length-append, getD-at}
+use Rattle.std.proofs.shelf.Lists.{take-append-drop, drop-more, take-rest, getD-take, length-take-le, length-append}
+use Rattle.std.proofs.shelf.Lists.{getD-at}
 use Rattle.layout.specs.Splits.{Lacks}
 
 pub cut-at : (xs : List ℕ) (i mark : ℕ) → i < length xs → getD xs i 0 ≡ mark
@@ -20,14 +21,16 @@ cut-at xs i mark l is before =
     drop-more xs i 0 l ∙ ap (λ b. b ∷ drop (i + 1) xs) is ∙ ap (λ ys. mark ∷ ys) (sym (take-rest xs (i + 1))) in (
       sym (take-append-drop i xs) ∙ ap (λ k. take k xs ++ drop i xs) (sym z) ∙ ap (λ ys. take (i - 0) xs ++ ys) rest,
       subst (λ n. Lacks mark (take n xs)) (sym z)
-          (λ k h e. let m : k < i = omega (arith, length-take-le i xs (omega arith)) in before k m (sym (getD-take i xs k 0 m) ∙ e)),
+          (λ k h e. let m : k < i = omega (arith, length-take-le i xs (omega arith)) in before k m
+          (sym (getD-take i xs k 0 m) ∙ e)),
     )
 
 pub lacks-tail : (mark b : ℕ) (bs : List ℕ) → Lacks mark (b ∷ bs) → Lacks mark bs
 lacks-tail mark b bs n i l e = n (suc i) (omega arith) e
 
 pub no-cut : (mark : ℕ) (xs a b : List ℕ) → Lacks mark xs → xs ≡ a ++ mark ∷ b → ⊥
-no-cut mark xs a b n e = subst (Lacks mark) e n (length a) (simp length-append (omega arith)) (getD-at a mark b 0 (length a) refl)
+no-cut mark xs a b n e = subst (Lacks mark) e n (length a) (simp length-append (omega arith))
+    (getD-at a mark b 0 (length a) refl)
 
 pub one-cut : (mark : ℕ) (a a′ b b′ : List ℕ) → Lacks mark a → Lacks mark a′ → a ++ mark ∷ b ≡ a′ ++ mark ∷ b′
     → (a ≡ a′) × (b ≡ b′)

@@ -7,11 +7,13 @@ use borrow.Author.Needs.{needs}
 use lib.ListN.{length, getD, take}
 use Rattle.std.specs.Written.{decimal}
 use Rattle.std.proofs.shelf.Numerals.{Numerals, numerals-by-fold, tells-by-index, value-short}
-use Rattle.std.proofs.shelf.Decimals.{decimal-some, first-decimal, decimal-digit, digits-decimal, value-decimal, decimal-value, length-decimal-le}
+use Rattle.std.proofs.shelf.Decimals.{decimal-some, first-decimal, decimal-digit, digits-decimal, value-decimal}
+use Rattle.std.proofs.shelf.Decimals.{decimal-value, length-decimal-le}
 use Rattle.std.proofs.shelf.Tests.{cases-lt}
-use Rattle.std.proofs.shelf.Lists.{take-more, length-take-le, getD-take, getD-push, getD-append-left, length-push, take-all}
+use Rattle.std.proofs.shelf.Lists.{take-more, length-take-le, getD-take, getD-push, getD-append-left, length-push}
+use Rattle.std.proofs.shelf.Lists.{take-all}
 use mathlib.Core.Logic.{⊎-elim}
-use Rattle.layout.specs.Numbers.{Small, worthAfter, Writes}
+use Rattle.layout.specs.Numbers.{Small, Shaped, worthAfter, Writes}
 
 abbrev pub Digits : List ℕ → Type 0
 Digits ds = (i : ℕ) → i < length ds → (48 ≤ getD ds i 0) × (getD ds i 0 ≤ 57)
@@ -28,15 +30,15 @@ decimal-plain n h e =
 pub decimal-writes : (n : ℕ) → n < 2 ^ 64 → Writes (decimal n) n
 decimal-writes n h =
     record {
-      some = decimal-some n h;
+      plain = (decimal-some n h, decimal-plain n h);
       digits = digits-decimal digit-numerals n h;
-      plain = decimal-plain n h;
       worth = value-decimal digit-numerals n h;
     }
 
 pub writes-decimal : (bytes : List ℕ) (n : ℕ) → n < 2 ^ 64 → Writes bytes n → bytes ≡ decimal n
 writes-decimal bytes n h w =
-    sym (decimal-value digit-numerals bytes (w .digits) (w .some) (w .plain) (omega (arith, w .worth))) ∙ ap decimal (w .worth)
+    sym (decimal-value digit-numerals bytes (w .digits) (w .plain .0) (w .plain .1) (omega (arith, w .worth)))
+    ∙ ap decimal (w .worth)
 
 -- The decimal of a small number has at most five digits.
 pub small-writes : (bytes : List ℕ) (n : ℕ) → Small n → bytes ≡ decimal n → Writes bytes n × (length bytes ≤ 5)
@@ -55,7 +57,8 @@ Front text i v = Digits (take i text) × (v ≡ worthAfter 0 (take i text))
 digits-push : (bs : List ℕ) (b : ℕ) → Digits bs → 48 ≤ b → b ≤ 57 → Digits (bs ++ b ∷ [])
 digits-push bs b ds low high i h =
     ⊎-elim (λ (l : i < length bs). subst (λ x. (48 ≤ x) × (x ≤ 57)) (sym (getD-append-left bs (b ∷ []) 0 i l)) (ds i l))
-    (λ (l : length bs ≤ i). subst (λ x. (48 ≤ x) × (x ≤ 57)) (sym (getD-push bs b 0 i (omega (arith, length-push bs b)))) (low, high))
+    (λ (l : length bs ≤ i). subst (λ x. (48 ≤ x) × (x ≤ 57))
+    (sym (getD-push bs b 0 i (omega (arith, length-push bs b)))) (low, high))
     (cases-lt i (length bs))
 
 pub front-more : (text : List ℕ) (i v d : ℕ) → i < length text → Front text i v → 48 ≤ getD text i 0
@@ -71,16 +74,11 @@ front-small text i v l h f =
     omega (arith, value-short digit-numerals (take i text) 5 (f .0) (omega (arith, length-take-le i text h)), f .1)
 
 -- A text of one to five digits without a needless leading 0 is the decimal of what it is worth.
-pub all-digits : (text : List ℕ) (v : ℕ) → 0 < length text → length text ≤ 5 → (getD text 0 0 ≡ 48 → length text ≤ 1)
-    → Front text (length text) v → Small v × (text ≡ decimal v)
-all-digits text v some few plain f =
+pub all-digits : (text : List ℕ) (v : ℕ) → Shaped text → Front text (length text) v → Small v × (text ≡ decimal v)
+all-digits text v shaped f =
     let e : take (length text) text ≡ text = take-all (length text) text (omega arith) in
-    let s : v ≤ 99999 = front-small text (length text) v few (omega arith) f in (
+    let s : v ≤ 99999 = front-small text (length text) v (shaped .1) (omega arith) f in (
       s,
-      writes-decimal text v (omega arith) (record {
-        some = some;
-        digits = subst Digits e (f .0);
-        plain = λ z. omega (arith, plain z);
-        worth = sym (f .1 ∙ ap (worthAfter 0) e);
-      }),
+      writes-decimal text v (omega arith)
+          (record { plain = shaped .0; digits = subst Digits e (f .0); worth = sym (f .1 ∙ ap (worthAfter 0) e) }),
     )

@@ -17,7 +17,8 @@ use Rattle.program.specs.Edits.{Caps, Out, accepted, refused, isOpen, withStage
 use Rattle.layout.specs.declared.loading.Part.{Part}
 use Rattle.layout.specs.declared.loading.Part.the-variants.{Stages, Moves, Rules}
 use Rattle.layout.specs.Lines.{Line, stage, move, rule, write}
-use Rattle.layout.specs.Pages.{rank, partOf, bytesOf, Follows, InForm, lastPart, NoLine, editStep, verdict, Edited, after, Accepted, textsOf, rulesOf, Took, Whole, BreaksForm, BreaksEdit, mostBytes}
+use Rattle.layout.specs.Pages.{rank, partOf, bytesOf, Follows, InForm, lastPart, NoLine, editStep, verdict, Edited}
+use Rattle.layout.specs.Pages.{after, Accepted, textsOf, rulesOf, Took, Whole, BreaksForm, BreaksEdit, mostBytes}
 
 bytes-push : (ls : List Line) (l : Line) (rest : List ℕ)
     → bytesOf (ls ++ l ∷ []) ++ rest ≡ bytesOf ls ++ (write l ++ 10 ∷ rest)
@@ -100,7 +101,8 @@ refused-lay : (caps : Caps) (p : Prog) (s d t : ℕ) (fault : EditFault) → Kee
 refused-lay caps p s d t fault =
     let if = keeps-cond p fault in
     let no = keeps-refused p fault in
-    let room = cond (ltb (length (p .moves)) (caps .moves)) (accepted (length (p .moves)) (withMove p s d t)) (refused MovesFull p) in
+    let room = cond (ltb (length (p .moves)) (caps .moves)) (accepted (length (p .moves)) (withMove p s d t))
+    (refused MovesFull p) in
     let short = cond (leb d mostMinutes) room (refused TooLong p) in
     let enters = cond (isOpen (stageAt p t .kind)) short (refused SilentStage p) in
     let leaves = cond (isOpen (stageAt p s .kind)) enters (refused SilentStage p) in
@@ -120,13 +122,15 @@ refused-lay caps p s d t fault =
 
 refused-keeps : (caps : Caps) (p : Prog) (l : Line) (fault : EditFault) → Keeps p fault (editStep caps p l)
 refused-keeps caps p (stage marks) fault =
-    keeps-cond p fault (ltb (length (p .stages)) (caps .stages)) (accepted (length (p .stages)) (withStage p marks)) (refused StagesFull p)
+    keeps-cond p fault (ltb (length (p .stages)) (caps .stages)) (accepted (length (p .stages)) (withStage p marks))
+    (refused StagesFull p)
     (keeps-accepted p (withStage p marks) fault (length (p .stages))) (keeps-refused p fault StagesFull)
 refused-keeps caps p (move s d t) fault = refused-lay caps p s d t fault
 refused-keeps caps p (rule text) fault = keeps-accepted p p fault 0
 
 -- The reader stands before `rest`, behind `number` lines of which the last is of the part.
-pub record Stands (caps : Caps) (p : Prog) (page : List ℕ) (part : Part) (number : ℕ) (rest rules : List ℕ) (q : Prog) : Type 0 where
+pub record Stands (caps : Caps) (p : Prog) (page : List ℕ) (part : Part) (number : ℕ) (rest rules : List ℕ)
+    (q : Prog) : Type 0 where
   pub lines : List Line
   pub took : Took caps p page lines rest q
   pub part-is : part ≡ lastPart Stages lines
@@ -146,7 +150,13 @@ at-start caps p page =
 pub few-lines : {caps : Caps} {p : Prog} {page : List ℕ} {part : Part} {number : ℕ} {rest rules : List ℕ} {q : Prog}
     → Stands caps p page part number rest rules q → number + length rest ≤ length page
 few-lines {rest} s =
-    omega (arith, s .number-is, bytes-long (s .lines), ap length (s .took .splits), length-append (bytesOf (s .lines)) rest)
+    omega (
+      arith,
+      s .number-is,
+      bytes-long (s .lines),
+      ap length (s .took .splits),
+      length-append (bytesOf (s .lines)) rest,
+    )
 
 module _ {caps : Caps} {p : Prog} {page : List ℕ} {part : Part} {number : ℕ} {rest rules : List ℕ} {q : Prog}
     (s : Stands caps p page part number rest rules q) where
@@ -175,7 +185,8 @@ module _ {caps : Caps} {p : Prog} {page : List ℕ} {part : Part} {number : ℕ}
             ∙ sym (rules-push (s .lines) l rest′ (sym is ∙ rule-line));
       }
 
-  pub other-more : (l : Line) (rest′ : List ℕ) (part′ : Part) (q′ : Prog) → Follows part l → rest ≡ write l ++ 10 ∷ rest′
+  pub other-more : (l : Line) (rest′ : List ℕ) (part′ : Part) (q′ : Prog) → Follows part l
+      → rest ≡ write l ++ 10 ∷ rest′
       → Edited (editStep caps q l) (Ok tt) q′ → part′ ≡ partOf l → (part′ ≡ Rules → ⊥)
       → Stands caps p page part′ (number + 1) rest′ rest′ q′
   other-more l rest′ part′ q′ f e d is other =
@@ -187,7 +198,8 @@ module _ {caps : Caps} {p : Prog} {page : List ℕ} {part : Part} {number : ℕ}
         part-is = last;
         number-is = ap (λ n. n + 1) (s .number-is) ∙ sym (length-push (s .lines) l);
         rules-are = ap (λ ts. rulesOf ts ++ rest′)
-            (sym (no-rule-yet Stages (s .lines ++ l ∷ []) (took .form) (subst (λ x. rank x < 2) last (low-rank part′ other))));
+            (sym (no-rule-yet Stages (s .lines ++ l ∷ []) (took .form)
+            (subst (λ x. rank x < 2) last (low-rank part′ other))));
       }
 
   pub page-ends : length rest ≤ 0 → length page ≤ mostBytes → Whole caps p page rules q
@@ -197,7 +209,8 @@ module _ {caps : Caps} {p : Prog} {page : List ℕ} {part : Part} {number : ℕ}
         lines = s .lines;
         short = short;
         took = subst (λ bs. Took caps p page (s .lines) bs q) e (s .took);
-        rules-are = s .rules-are ∙ ap (λ bs. rulesOf (textsOf (s .lines)) ++ bs) e ∙ append-nil (rulesOf (textsOf (s .lines)));
+        rules-are = s .rules-are ∙ ap (λ bs. rulesOf (textsOf (s .lines)) ++ bs) e
+            ∙ append-nil (rulesOf (textsOf (s .lines)));
       }
 
   pub breaks-form : 0 < length rest → length page ≤ mostBytes → NoLine part rest → BreaksForm caps p page (number + 1) q
@@ -212,11 +225,13 @@ module _ {caps : Caps} {p : Prog} {page : List ℕ} {part : Part} {number : ℕ}
         number = ap (λ n. n + 1) (s .number-is);
       }
 
-  pub breaks-edit : (l : Line) (rest′ : List ℕ) (fault : EditFault) (q′ : Prog) → length page ≤ mostBytes → Follows part l
+  pub breaks-edit : (l : Line) (rest′ : List ℕ) (fault : EditFault) (q′ : Prog) → length page ≤ mostBytes
+      → Follows part l
       → rest ≡ write l ++ 10 ∷ rest′ → Edited (editStep caps q l) (Err fault) q′
       → BreaksEdit caps p page (number + 1) fault q′
   breaks-edit l rest′ fault q′ short f e d =
-      let no : editStep caps q l .answer ≡ Err fault = refused-verdict (editStep caps q l .answer) fault (sym (d .answers)) in
+      let no : editStep caps q l .answer ≡ Err fault = refused-verdict (editStep caps q l .answer) fault
+      (sym (d .answers)) in
       let same : q ≡ q′ = sym (d .leaves ∙ refused-keeps caps q l fault no) in
       record {
         lines = s .lines;
@@ -234,7 +249,8 @@ pub shorter : {bytes : List ℕ} (l : Line) (rest : List ℕ) → bytes ≡ writ
 shorter l rest e = omega (arith, ap length e, length-append (write l) (10 ∷ rest))
 
 -- What a test for another part says.
-pub is-part : (x part : Part) (r : Bool) → (t : Bool) × cond t (x ≡ part) (x ≡ part → ⊥) × (r ≡ not t) → r ≡ false → x ≡ part
+pub is-part : (x part : Part) (r : Bool) → (t : Bool) × cond t (x ≡ part) (x ≡ part → ⊥) × (r ≡ not t) → r ≡ false
+    → x ≡ part
 is-part x part r h e = go (h .0) (h .1) (h .2)
   where
     go : (t : Bool) → cond t (x ≡ part) (x ≡ part → ⊥) → r ≡ not t → x ≡ part

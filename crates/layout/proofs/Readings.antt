@@ -32,8 +32,12 @@ number-first {text} {a} {rest} n more cut s e =
 same-move : (m n : ℕ × ℕ × ℕ) → FitsMove m → FitsMove n → writeMove m ≡ writeMove n
     → (m .0 ≡ n .0) × (m .1 ≡ n .1) × (m .2 ≡ n .2)
 same-move m n f g e =
-    let p = number-first {a = decimal (m .0)} (n .0) (decimal (n .1) ++ 44 ∷ decimal (n .2)) (refl, decimal-lacks-comma (m .0) (f .0)) (g .0) e in
-    let q = number-first {a = decimal (m .1)} (n .1) (decimal (n .2)) (refl, decimal-lacks-comma (m .1) (f .1)) (g .1) (p .1) in (
+    let p = number-first {a = decimal (m .0)} (n .0) (decimal (n .1) ++ 44 ∷ decimal (n .2)) (
+      refl,
+      decimal-lacks-comma (m .0) (f .0),
+    ) (g .0) e in
+    let q = number-first {a = decimal (m .1)} (n .1) (decimal (n .2)) (refl, decimal-lacks-comma (m .1) (f .1)) (g .1)
+    (p .1) in (
       same-from-decimal (m .0) (n .0) (omega arith) (omega arith) (p .0),
       same-from-decimal (m .1) (n .1) (omega arith) (omega arith) (q .0),
       same-from-decimal (m .2) (n .2) (omega arith) (omega arith) (q .1),
@@ -65,7 +69,8 @@ no-move is none (move s d t) f e = none (s, d, t) f (cc)
 no-move is none (rule text) f e = other-kind 109 114 (sym is ∙ e) (λ h. omega arith)
 
 pub line-lacks-end : (line : Line) → Fits line → Lacks 10 (write line)
-line-lacks-end (stage marks) f = lacks-append 10 (codes "stage=") (letters marks) (lacks-from-test 10 (codes "stage=") refl) (λ i l e. omega (arith, letter-low marks i l))
+line-lacks-end (stage marks) f = lacks-append 10 (codes "stage=") (letters marks)
+    (lacks-from-test 10 (codes "stage=") refl) (λ i l e. omega (arith, letter-low marks i l))
 line-lacks-end (move s d t) f =
     lacks-append 10 (codes "move=") (writeMove (s, d, t)) (lacks-from-test 10 (codes "move=") refl)
     (lacks-append 10 (decimal s) (44 ∷ (decimal d ++ 44 ∷ decimal t)) (decimal-lacks 10 s (omega arith) (f .0))
@@ -85,4 +90,5 @@ no-end part bytes n line rest f e = no-cut 10 bytes (write line) rest n e
 pub no-reading : {bytes : List ℕ} (first rest : List ℕ) (part : Part) → (bytes ≡ first ++ 10 ∷ rest) × Lacks 10 first
     → ((line : Line) → Fits line → first ≡ write line → ⊥) → NoLine part bytes
 no-reading first rest part cut none line more f e =
-    none line (f .fits) (one-cut 10 first (write line) rest more (cut .1) (line-lacks-end line (f .fits)) (sym (cut .0) ∙ e) .0)
+    none line (f .fits) (one-cut 10 first (write line) rest more (cut .1) (line-lacks-end line (f .fits))
+    (sym (cut .0) ∙ e) .0)

@@ -54,16 +54,19 @@ unfolding lettersFrom
 weigh-letters zero b marks l = omega (arith, l)
 weigh-letters (suc k) b marks l =
     go (eqb (marks % 2) 1) refl
-    (weigh-next b (b + 1 + k) (lettersFrom k (b + 1) (marks / 2)) (letters-rising k (b + 1) (marks / 2) (b + 1 + k) refl))
+    (weigh-next b (b + 1 + k) (lettersFrom k (b + 1) (marks / 2))
+    (letters-rising k (b + 1) (marks / 2) (b + 1 + k) refl))
     (weigh-letters k (b + 1) (marks / 2) (omega (arith, l, pow-succ' 2 k)))
   where
-    go : (t : Bool) → eqb (marks % 2) 1 ≡ t → weigh b (lettersFrom k (b + 1) (marks / 2)) ≡ 2 * weigh (b + 1) (lettersFrom k (b + 1) (marks / 2))
+    go : (t : Bool) → eqb (marks % 2) 1 ≡ t → weigh b (lettersFrom k (b + 1) (marks / 2)) ≡ 2 * weigh (b + 1)
+        (lettersFrom k (b + 1) (marks / 2))
         → weigh (b + 1) (lettersFrom k (b + 1) (marks / 2)) ≡ marks / 2
         → weigh b (cond t (b ∷ lettersFrom k (b + 1) (marks / 2)) (lettersFrom k (b + 1) (marks / 2))) ≡ marks
     go true t h e = let z : b - b ≡ 0 = omega arith in omega (arith, ap (λ n. 2 ^ n) z, eqb-true (marks % 2) 1 t)
     go false t h e = let n : marks % 2 ≡ 1 → ⊥ = eqb-false (marks % 2) 1 t in omega arith
 
-letters-even : (k b m marks : ℕ) (xs : List ℕ) → marks ≡ 2 * m → lettersFrom k (b + 1) m ≡ xs → lettersFrom (suc k) b marks ≡ xs
+letters-even : (k b m marks : ℕ) (xs : List ℕ) → marks ≡ 2 * m → lettersFrom k (b + 1) m ≡ xs
+    → lettersFrom (suc k) b marks ≡ xs
 unfolding lettersFrom
 letters-even k b m marks xs e h =
     let even : eqb (marks % 2) 1 ≡ false = ne-eqb (marks % 2) 1 (λ x. omega arith) in
@@ -87,12 +90,14 @@ letters-weigh (suc k) b e (x ∷ xs) is r =
     ⊎-elim
     (λ (l : b < x).
     let next : Rising (b + 1) e (x ∷ xs) = (omega arith, r .1, r .2) in
-    letters-even k b (weigh (b + 1) (x ∷ xs)) (weigh b (x ∷ xs)) (x ∷ xs) (weigh-next b e (x ∷ xs) next) (letters-weigh k (b + 1) e (x ∷ xs) (omega arith) next))
+    letters-even k b (weigh (b + 1) (x ∷ xs)) (weigh b (x ∷ xs)) (x ∷ xs) (weigh-next b e (x ∷ xs) next)
+    (letters-weigh k (b + 1) e (x ∷ xs) (omega arith) next))
     (λ (l : x ≤ b).
     let same : x ≡ b = omega (arith, r .0) in
     let next : Rising (b + 1) e xs = subst (λ y. Rising (y + 1) e xs) same (r .2) in
     let one : x - b ≡ 0 = omega arith in
-    letters-odd k b (weigh (b + 1) xs) (weigh b (x ∷ xs)) xs (omega (arith, ap (λ n. 2 ^ n) one, weigh-next b e xs next)) (letters-weigh k (b + 1) e xs (omega arith) next)
+    letters-odd k b (weigh (b + 1) xs) (weigh b (x ∷ xs)) xs
+    (omega (arith, ap (λ n. 2 ^ n) one, weigh-next b e xs next)) (letters-weigh k (b + 1) e xs (omega arith) next)
     ∙ ap (λ y. y ∷ xs) (sym same))
     (cases-lt b x)
 
@@ -113,7 +118,14 @@ pub record Sofar (text : List ℕ) (i next marks : ℕ) : Type 0 where
 
 pub no-letter-yet : (text : List ℕ) → Sofar text 0 97 0
 no-letter-yet text =
-    record { low = omega arith; high = omega arith; below = omega arith; adds = omega arith; to = λ r. r; from = λ r. r }
+    record {
+      low = omega arith;
+      high = omega arith;
+      below = omega arith;
+      adds = omega arith;
+      to = λ r. r;
+      from = λ r. r;
+    }
 
 pub one-more : (text : List ℕ) (i next marks : ℕ) → i < length text → Sofar text i next marks → next ≤ getD text i 0
     → getD text i 0 ≤ 112 → Sofar text (i + 1) (getD text i 0 + 1) (marks + (1 * 2 ^ (getD text i 0 - 97)) % 65536)
@@ -125,7 +137,13 @@ one-more text i next marks l s lo hi =
     record {
       low = omega (arith, s .low);
       high = omega arith;
-      below = omega (arith, s .below, pow-mono {i = next - 97} {j = x - 97} (omega arith), ap (λ n. 2 ^ n) k, pow-succ' 2 (x - 97));
+      below = omega (
+        arith,
+        s .below,
+        pow-mono {i = next - 97} {j = x - 97} (omega arith),
+        ap (λ n. 2 ^ n) k,
+        pow-succ' 2 (x - 97),
+      );
       adds = omega (arith, s .adds, ap (weigh 97) e);
       to = λ r. (subst (Rising next 113) e (s .to r)) .2;
       from = λ r. s .from (subst (Rising next 113) (sym e) (lo, omega arith, r));
@@ -135,7 +153,13 @@ pub marks-fit : (text : List ℕ) (i next marks : ℕ) → Sofar text i next mar
     → getD text i 0 ≤ 112 → marks + (1 * 2 ^ (getD text i 0 - 97)) % 65536 < 65536
 marks-fit text i next marks s lo hi =
     let x = getD text i 0 in
-    omega (arith, s .below, one-shl (x - 97) 16 (omega (arith, s .low)), pow-mono {i = next - 97} {j = x - 97} (omega arith), pow-mono {i = x - 97} {j = 15} (omega arith))
+    omega (
+      arith,
+      s .below,
+      one-shl (x - 97) 16 (omega (arith, s .low)),
+      pow-mono {i = next - 97} {j = x - 97} (omega arith),
+      pow-mono {i = x - 97} {j = 15} (omega arith),
+    )
 
 pub no-more : (text : List ℕ) (i next marks : ℕ) → length text ≤ i → Sofar text i next marks
     → Sixteen marks × (text ≡ letters marks)

@@ -1,7 +1,7 @@
 -- The letters of a set of marks, in rising order.
 use mathlib.Core.List.{List, [], _∷_}
 use mathlib.Core.Bool.{cond}
-use Prim.Native.Nat.{ℕ, zero, suc, _+_, _/_, _%_, _^_, _<_}
+use Prim.Native.Nat.{ℕ, zero, suc, _+_, _/_, _%_, _^_, _≤_, _<_}
 use lib.Dec.{eqb}
 
 -- The letters of k marks, of which the first has the letter b and is worth 1.
@@ -16,3 +16,7 @@ letters marks = lettersFrom 16 97 marks
 
 abbrev pub Sixteen : ℕ → Type 0
 Sixteen marks = marks < 2 ^ 16
+
+-- A letter from b to p (byte 112).
+abbrev pub Letter : ℕ → ℕ → Type 0
+Letter b x = (b ≤ x) × (x ≤ 112)

@@ -14,14 +14,21 @@ abbrev pub worthAfter : ℕ → List ℕ → ℕ
 worthAfter n [] = n
 worthAfter n (b ∷ bs) = worthAfter (n * 10 + (b - 48)) bs
 
--- The bytes write the number n: one digit or more, the first of several not 0, worth n.
+-- A 0 in front of other bytes is needless.
+abbrev pub Plain : List ℕ → Type 0
+Plain bytes = (0 < length bytes) × (getD bytes 0 0 ≡ 48 → length bytes ≡ 1)
+
+-- The bytes write the number n: digits, no needless 0 among them, worth n.
 pub record Writes (bytes : List ℕ) (n : ℕ) : Type 0 where
-  pub some : 0 < length bytes
+  pub plain : Plain bytes
   pub digits : (i : ℕ) → i < length bytes → (48 ≤ getD bytes i 0) × (getD bytes i 0 ≤ 57)
-  pub plain : getD bytes 0 0 ≡ 48 → length bytes ≡ 1
   pub worth : worthAfter 0 bytes ≡ n
 
 -- Each number is written in one way.
 abbrev pub One-way-to-write : Type 0
 One-way-to-write =
     (n : ℕ) → n < 2 ^ 64 → Writes (decimal n) n × ((bytes : List ℕ) → Writes bytes n → bytes ≡ decimal n)
+
+-- From one to five bytes, and no needless 0.
+abbrev pub Shaped : List ℕ → Type 0
+Shaped bytes = Plain bytes × (length bytes ≤ 5)

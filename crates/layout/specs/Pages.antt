@@ -121,7 +121,8 @@ pub record BreaksForm (caps : Caps) (p : Prog) (page : List ℕ) (k : ℕ) (q : 
   pub breaks : NoLine (lastPart Stages lines) rest
   pub number : k ≡ length lines + 1
 
--- Line k is the first that is out of form or refused; its edit is refused, and the store holds what those before it made.
+-- Line k is the first that is out of form or refused; its edit is refused, and the store holds what those before it
+-- made.
 pub record BreaksEdit (caps : Caps) (p : Prog) (page : List ℕ) (k : ℕ) (fault : EditFault) (q : Prog) : Type 0 where
   pub lines : List Line
   pub line : Line

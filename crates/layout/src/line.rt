@@ -1,7 +1,7 @@
 // The lines of a page: what each kind says, and how it is written.
 ghost use Rattle.std.specs.Options.{mapped};
 ghost use Rattle.layout.specs.Reading.{Reads, One-reading};
-ghost use Rattle.layout.specs.Splits.{Lacks};
+ghost use Rattle.layout.specs.Splits.{Lacks, Splits};
 ghost use Rattle.layout.specs.Lines.{write, Fits, lineOf, writeMove, FitsMove};
 use crate::marks::read_marks;
 use crate::number::read_number;
@@ -26,12 +26,19 @@ pub enum PageLine<'a> {
     },
 }
 
+// What stands before the first comma, and what stands behind it.
+fn split_at_comma(text: &[u8]) -> Option<(&[u8], &[u8])>
+    ensures { λ r. ⌜ Splits (now (text .entry)) 44 r ⌝ }
+{
+    split_once(text, b',')
+}
+
 // Reads the three numbers of a move, with commas between them.
 fn read_move(text: &[u8]) -> Option<(u32, u32, u32)>
     ensures { λ r. ⌜ Reads writeMove FitsMove (now (text .entry)) r ⌝ }
 {
-    let (leaves, rest) = split_once(text, b',')?;
-    let (minutes, enters) = split_once(rest, b',')?;
+    let (leaves, rest) = split_at_comma(text)?;
+    let (minutes, enters) = split_at_comma(rest)?;
     Some((
         read_number(leaves)?,
         read_number(minutes)?,

@@ -1,6 +1,14 @@
 // The marks of a stage as a page has them: letters out of a to p, in rising order.
+ghost use Rattle.std.specs.Orderings.{When};
 ghost use Rattle.layout.specs.Reading.{Reads, One-reading};
-ghost use Rattle.layout.specs.Letters.{letters, Sixteen};
+ghost use Rattle.layout.specs.Letters.{letters, Sixteen, Letter};
+
+// Whether the letter is one from `next` on.
+fn is_letter(next: u8, letter: u8) -> bool
+    ensures { λ r. ⌜ When r (Letter next letter) (Letter next letter → ⊥) ⌝ }
+{
+    next <= letter && letter <= b'p'
+}
 
 // Reads letters in strictly rising order as the set of their marks: mark a is bit 0.
 pub(crate) fn read_marks(text: &[u8]) -> Option<u16>
@@ -9,7 +17,7 @@ pub(crate) fn read_marks(text: &[u8]) -> Option<u16>
     let mut marks = 0;
     let mut next = b'a';
     for letter in text {
-        if *letter < next || *letter > b'p' {
+        if !is_letter(next, *letter) {
             return None;
         }
         marks += 1 << (*letter - b'a');

@@ -1,19 +1,27 @@
 // Numbers as a page has them, in decimal.
+ghost use Rattle.std.specs.Orderings.{When};
 ghost use Rattle.std.specs.Written.{decimal};
 ghost use Rattle.layout.specs.Reading.{Reads};
-ghost use Rattle.layout.specs.Numbers.{Small, One-way-to-write};
+ghost use Rattle.layout.specs.Numbers.{Small, Shaped, One-way-to-write};
 
 // The most digits of a number on a page.
 const MOST_DIGITS: usize = 5;
+
+// Whether there are 1 to 5 bytes, and no needless leading 0.
+fn is_shaped(text: &[u8]) -> bool
+    ensures { λ r. ⌜ When r (Shaped (now (text .entry))) (Shaped (now (text .entry)) → ⊥) ⌝ }
+{
+    if text.len() > 1 && text[0] == b'0' {
+        return false;
+    }
+    text.len() > 0 && text.len() <= MOST_DIGITS
+}
 
 // Reads a number of 1 to 5 digits that has no needless leading 0.
 pub(crate) fn read_number(text: &[u8]) -> Option<u32>
     ensures { λ r. ⌜ Reads decimal Small (now (text .entry)) r ⌝ }
 {
-    if text.len() == 0 || text.len() > MOST_DIGITS {
-        return None;
-    }
-    if text[0] == b'0' && text.len() > 1 {
+    if !is_shaped(text) {
         return None;
     }
     let mut value = 0;

@@ -31,7 +31,8 @@ earlier-line ls l k h =
 new-line : (ls : List Line) (l : Line) → ruleAt (ls ++ l ∷ []) (last (ls ++ l ∷ [])) ≡ ruleFrom (rulesOf [] ls) l
 new-line ls l =
     ap (λ rs. getD rs (last (ls ++ l ∷ [])) one) (rules-push [] ls l)
-    ∙ getD-push (rulesOf [] ls) (ruleFrom (rulesOf [] ls) l) one (last (ls ++ l ∷ [])) (omega (arith, length-rules [] ls, length-push ls l))
+    ∙ getD-push (rulesOf [] ls) (ruleFrom (rulesOf [] ls) l) one (last (ls ++ l ∷ []))
+    (omega (arith, length-rules [] ls, length-push ls l))
 
 -- The lines of a rule leave the rules of those before them.
 earlier-rule : (f : Rule) (ls : List Line) (k : ℕ) → k < length ls → ruleAt (put f ls) k ≡ ruleAt ls k
@@ -42,7 +43,8 @@ earlier-rule (not f) ls k h =
 earlier-rule (both f g) ls k h =
     let ms = put f ls in let ns = put g ms in
     let x = put-longer f ls in let y = put-longer g ms in
-    earlier-line ns (And (last ms) (last ns)) k (omega arith) ∙ earlier-rule g ms k (omega arith) ∙ earlier-rule f ls k h
+    earlier-line ns (And (last ms) (last ns)) k (omega arith) ∙ earlier-rule g ms k (omega arith)
+    ∙ earlier-rule f ls k h
 earlier-rule (either f g) ls k h =
     let ms = put f ls in let ns = put g ms in
     let x = put-longer f ls in let y = put-longer g ms in
@@ -50,11 +52,13 @@ earlier-rule (either f g) ls k h =
 earlier-rule (some-run f b g) ls k h =
     let ms = put f ls in let ns = put g ms in
     let x = put-longer f ls in let y = put-longer g ms in
-    earlier-line ns (Until Some (last ms) (boundLine b) (last ns)) k (omega arith) ∙ earlier-rule g ms k (omega arith) ∙ earlier-rule f ls k h
+    earlier-line ns (Until Some (last ms) (boundLine b) (last ns)) k (omega arith) ∙ earlier-rule g ms k (omega arith)
+    ∙ earlier-rule f ls k h
 earlier-rule (each-run f b g) ls k h =
     let ms = put f ls in let ns = put g ms in
     let x = put-longer f ls in let y = put-longer g ms in
-    earlier-line ns (Until All (last ms) (boundLine b) (last ns)) k (omega arith) ∙ earlier-rule g ms k (omega arith) ∙ earlier-rule f ls k h
+    earlier-line ns (Until All (last ms) (boundLine b) (last ns)) k (omega arith) ∙ earlier-rule g ms k (omega arith)
+    ∙ earlier-rule f ls k h
 
 -- Behind the lines of f and then those of g, both are at hand.
 two-parts : (f g : Rule) (ls : List Line) → ruleAt (put f ls) (last (put f ls)) ≡ f
@@ -79,22 +83,26 @@ last-rule-from (some-run f (most c) g) ls =
     let ms = put f ls in let ns = put g ms in
     let x = two-parts f g ls (last-rule-from f ls) in
     let y = last-rule-from g ms in
-    new-line ns (Until Some (last ms) (boundLine (most c)) (last ns)) ∙ ap (λ a. some-run a (most c) (ruleAt ns (last ns))) x ∙ ap (some-run f (most c)) y
+    new-line ns (Until Some (last ms) (boundLine (most c)) (last ns))
+    ∙ ap (λ a. some-run a (most c) (ruleAt ns (last ns))) x ∙ ap (some-run f (most c)) y
 last-rule-from (some-run f (least c) g) ls =
     let ms = put f ls in let ns = put g ms in
     let x = two-parts f g ls (last-rule-from f ls) in
     let y = last-rule-from g ms in
-    new-line ns (Until Some (last ms) (boundLine (least c)) (last ns)) ∙ ap (λ a. some-run a (least c) (ruleAt ns (last ns))) x ∙ ap (some-run f (least c)) y
+    new-line ns (Until Some (last ms) (boundLine (least c)) (last ns))
+    ∙ ap (λ a. some-run a (least c) (ruleAt ns (last ns))) x ∙ ap (some-run f (least c)) y
 last-rule-from (each-run f (most c) g) ls =
     let ms = put f ls in let ns = put g ms in
     let x = two-parts f g ls (last-rule-from f ls) in
     let y = last-rule-from g ms in
-    new-line ns (Until All (last ms) (boundLine (most c)) (last ns)) ∙ ap (λ a. each-run a (most c) (ruleAt ns (last ns))) x ∙ ap (each-run f (most c)) y
+    new-line ns (Until All (last ms) (boundLine (most c)) (last ns))
+    ∙ ap (λ a. each-run a (most c) (ruleAt ns (last ns))) x ∙ ap (each-run f (most c)) y
 last-rule-from (each-run f (least c) g) ls =
     let ms = put f ls in let ns = put g ms in
     let x = two-parts f g ls (last-rule-from f ls) in
     let y = last-rule-from g ms in
-    new-line ns (Until All (last ms) (boundLine (least c)) (last ns)) ∙ ap (λ a. each-run a (least c) (ruleAt ns (last ns))) x ∙ ap (each-run f (least c)) y
+    new-line ns (Until All (last ms) (boundLine (least c)) (last ns))
+    ∙ ap (λ a. each-run a (least c) (ruleAt ns (last ns))) x ∙ ap (each-run f (least c)) y
 
 pub last-rule : (f : Rule) → ruleAt (linesOf f) (length (linesOf f) - 1) ≡ f
 last-rule f = last-rule-from f []

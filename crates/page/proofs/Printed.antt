@@ -15,7 +15,8 @@ use Rattle.page.specs.Answers.{field, listed, separator, holdsIn, stagesFrom, 
 pub last-digit : (a z : List ℕ) (n : ℕ) → n < 10 → z ≡ a ++ (48 + n % 10) ∷ [] → z ≡ a ++ decimal n
 last-digit a z n l e = e ∙ ap (λ d. a ++ (48 + d) ∷ []) (omega arith) ∙ ap (λ ds. a ++ ds) (sym (decimal-digit n l))
 
-pub next-digit : (a m z : List ℕ) (n : ℕ) → 10 ≤ n → n < 2 ^ 64 → m ≡ a ++ decimal (n / 10) → z ≡ m ++ (48 + n % 10) ∷ []
+pub next-digit : (a m z : List ℕ) (n : ℕ) → 10 ≤ n → n < 2 ^ 64 → m ≡ a ++ decimal (n / 10)
+    → z ≡ m ++ (48 + n % 10) ∷ []
     → z ≡ a ++ decimal n
 next-digit a m z n l h e f =
     f ∙ ap (λ x. x ++ (48 + n % 10) ∷ []) e ∙ append-assoc a (decimal (n / 10)) ((48 + n % 10) ∷ [])
@@ -45,12 +46,15 @@ listed-push (m ∷ k ∷ ns) n =
     ∙ sym (append-assoc (decimal m) (44 ∷ listed (k ∷ ns)) (44 ∷ decimal n))
 
 stages-push : (k s : ℕ) (words : List ℕ) (word : ℕ)
-    → stagesFrom k s (words ++ word ∷ []) ≡ cond (holdsIn k word) (stagesFrom k s words ++ (s + length words) ∷ []) (stagesFrom k s words)
+    → stagesFrom k s (words ++ word ∷ []) ≡ cond (holdsIn k word) (stagesFrom k s words ++ (s + length words) ∷ [])
+    (stagesFrom k s words)
 stages-push k s [] word = ap (λ n. cond (holdsIn k word) (n ∷ []) []) (omega arith)
 stages-push k s (w ∷ words) word =
     ap (λ ns. cond (holdsIn k w) (s ∷ ns) ns) (stages-push k (s + 1) words word)
     ∙ go (holdsIn k w) (holdsIn k word) (stagesFrom k (s + 1) words)
-    ∙ ap (λ n. cond (holdsIn k word) (cond (holdsIn k w) (s ∷ stagesFrom k (s + 1) words) (stagesFrom k (s + 1) words) ++ n ∷ []) (cond (holdsIn k w) (s ∷ stagesFrom k (s + 1) words) (stagesFrom k (s + 1) words))) (omega arith)
+    ∙ ap (λ n. cond (holdsIn k word) (cond (holdsIn k w) (s ∷ stagesFrom k (s + 1) words)
+    (stagesFrom k (s + 1) words) ++ n ∷ []) (cond (holdsIn k w) (s ∷ stagesFrom k (s + 1) words)
+    (stagesFrom k (s + 1) words))) (omega arith)
   where
     go : (x y : Bool) (ns : List ℕ)
         → cond x (s ∷ cond y (ns ++ (s + 1 + length words) ∷ []) ns) (cond y (ns ++ (s + 1 + length words) ∷ []) ns)
@@ -69,21 +73,24 @@ pub none-listed : (k : ℕ) (sheet before : List ℕ) → Listed k sheet before 
 none-listed k sheet before = record { is = sym (append-nil before); begun-is = refl }
 
 stages-more : (k : ℕ) (sheet : List ℕ) (i : ℕ) → i < length sheet
-    → stagesOf k (take (i + 1) sheet) ≡ cond (holdsIn k (getD sheet i 0)) (stagesOf k (take i sheet) ++ i ∷ []) (stagesOf k (take i sheet))
+    → stagesOf k (take (i + 1) sheet) ≡ cond (holdsIn k (getD sheet i 0)) (stagesOf k (take i sheet) ++ i ∷ [])
+    (stagesOf k (take i sheet))
 stages-more k sheet i l =
     ap (stagesOf k) (take-more sheet i 0 l) ∙ stages-push k 0 (take i sheet) (getD sheet i 0)
     ∙ ap (λ n. cond (holdsIn k (getD sheet i 0)) (stagesOf k (take i sheet) ++ n ∷ []) (stagesOf k (take i sheet)))
     (omega (arith, length-take-le i sheet (omega arith)))
 
 pub one-listed : {k : ℕ} {sheet before out : List ℕ} {begun : Bool} {i : ℕ} (out′ : List ℕ) → i < length sheet
-    → Listed k sheet before out begun i → holdsIn k (getD sheet i 0) ≡ true → out′ ≡ out ++ (separator begun ++ decimal i)
+    → Listed k sheet before out begun i → holdsIn k (getD sheet i 0) ≡ true
+    → out′ ≡ out ++ (separator begun ++ decimal i)
     → Listed k sheet before out′ true (i + 1)
 one-listed {k} {sheet} {before} {out} {begun} {i} out′ l h t e =
     let ns = stagesOf k (take i sheet) in
     let m : stagesOf k (take (i + 1) sheet) ≡ ns ++ i ∷ [] =
     stages-more k sheet i l ∙ ap (λ b. cond b (ns ++ i ∷ []) ns) t in
     record {
-      is = e ∙ ap (λ o. o ++ (separator begun ++ decimal i)) (h .is) ∙ append-assoc before (listed ns) (separator begun ++ decimal i)
+      is = e ∙ ap (λ o. o ++ (separator begun ++ decimal i)) (h .is)
+          ∙ append-assoc before (listed ns) (separator begun ++ decimal i)
           ∙ ap (λ b. before ++ (listed ns ++ (separator b ++ decimal i))) (h .begun-is)
           ∙ ap (λ bs. before ++ bs) (sym (ap listed m ∙ listed-push ns i));
       begun-is = sym (ap begins m ∙ begins-push ns i);
@@ -96,7 +103,8 @@ one-passed {k} {sheet} {before} {out} {begun} {i} l h t =
     let m : stagesOf k (take (i + 1) sheet) ≡ ns = stages-more k sheet i l ∙ ap (λ b. cond b (ns ++ i ∷ []) ns) t in
     record { is = h .is ∙ ap (λ xs. before ++ listed xs) (sym m); begun-is = h .begun-is ∙ ap begins (sym m) }
 
-pub listed-as : {k : ℕ} {sheet before out out′ : List ℕ} {begun begun′ : Bool} {i : ℕ} → Listed k sheet before out begun i
+pub listed-as : {k : ℕ} {sheet before out out′ : List ℕ} {begun begun′ : Bool} {i : ℕ}
+    → Listed k sheet before out begun i
     → out′ ≡ out → begun′ ≡ begun → Listed k sheet before out′ begun′ i
 listed-as h e b = record { is = e ∙ h .is; begun-is = b ∙ h .begun-is }
 

@@ -56,16 +56,19 @@ bytes-push : (n : ℕ) (answers : List Answer) (a : Answer)
     → bytesFrom n (answers ++ a ∷ []) ≡ bytesFrom n answers ++ ruleBytes (n + length answers) a
 bytes-push n [] a = append-nil (ruleBytes n a) ∙ ap (λ k. ruleBytes k a) (omega arith)
 bytes-push n (b ∷ answers) a =
-    ap (λ bs. ruleBytes n b ++ bs) (bytes-push (n + 1) answers a ∙ ap (λ k. bytesFrom (n + 1) answers ++ ruleBytes k a) (omega arith))
+    ap (λ bs. ruleBytes n b ++ bs) (bytes-push (n + 1) answers a
+    ∙ ap (λ k. bytesFrom (n + 1) answers ++ ruleBytes k a) (omega arith))
     ∙ sym (append-assoc (ruleBytes n b) (bytesFrom (n + 1) answers) (ruleBytes (n + length (b ∷ answers)) a))
 
-checked-push : (answers : List Answer) (a : Answer) → isOk a ≡ true → checkedAmong (answers ++ a ∷ []) ≡ checkedAmong answers + 1
+checked-push : (answers : List Answer) (a : Answer) → isOk a ≡ true
+    → checkedAmong (answers ++ a ∷ []) ≡ checkedAmong answers + 1
 checked-push [] (Ok a) e = refl
 checked-push [] (Err fault) e = absurd (both-ways false refl e)
 checked-push (Ok b ∷ answers) a e = omega (arith, checked-push answers a e)
 checked-push (Err fault ∷ answers) a e = checked-push answers a e
 
-refused-push : (answers : List Answer) (a : Answer) → isOk a ≡ false → checkedAmong (answers ++ a ∷ []) ≡ checkedAmong answers
+refused-push : (answers : List Answer) (a : Answer) → isOk a ≡ false
+    → checkedAmong (answers ++ a ∷ []) ≡ checkedAmong answers
 refused-push [] (Ok a) e = absurd (both-ways true e refl)
 refused-push [] (Err fault) e = refl
 refused-push (Ok b ∷ answers) a e = omega (arith, refused-push answers a e)
@@ -95,10 +98,18 @@ none-answered p rules before =
       refused-is = refl;
     }
 
-module _ {p : Prog} {rules before rest out : List ℕ} {checked refused : ℕ} (s : Sofar p rules before rest out checked refused) where
+module _ {p : Prog} {rules before rest out : List ℕ} {checked refused : ℕ}
+    (s : Sofar p rules before rest out checked refused) where
   pub few-rules : checked + refused + length rest ≤ length rules
   few-rules =
-      omega (arith, s .refused-is, as-many p (s .texts) (s .answers) (s .answered), rules-long (s .texts), ap length (s .rules-are), length-append (rulesOf (s .texts)) rest)
+      omega (
+        arith,
+        s .refused-is,
+        as-many p (s .texts) (s .answers) (s .answered),
+        rules-long (s .texts),
+        ap length (s .rules-are),
+        length-append (rulesOf (s .texts)) rest,
+      )
 
   one-more : (text rest′ out′ : List ℕ) (t : Bool) (checked′ refused′ : ℕ) → Lacks 10 text
       → rest ≡ write (rule text) ++ 10 ∷ rest′ → (a : Adds p (checked + refused) text out out′ t)
@@ -169,7 +180,8 @@ form-texts part (stage marks ∷ ls) i = form-texts Stages ls (i .1)
 form-texts part (move s d t ∷ ls) i = form-texts Moves ls (i .1)
 form-texts part (rule text ∷ ls) i = (i .0 .fits, form-texts Rules ls (i .1))
 
-pub page-answered : {caps : Caps} {start p : Prog} {page rules before after : List ℕ} {checked declined : ℕ} (stages moves : ℕ)
+pub page-answered : {caps : Caps} {start p : Prog} {page rules before after : List ℕ} {checked declined : ℕ}
+    (stages moves : ℕ)
     → Whole caps start page rules p → AddsAll p rules before after checked declined
     → stages ≡ length (p .stages) → moves ≡ length (p .moves)
     → (bytes : List ℕ) × (after ≡ before ++ bytes) × PageAnswered caps start page bytes stages moves checked declined

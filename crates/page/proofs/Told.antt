@@ -89,9 +89,11 @@ in-among k s (w ∷ words) t i = go (holdsIn k w) refl (in-among k (s + 1) words
 
     go : (h : Bool) → holdsIn k w ≡ h → (In k (s + 1) words t → Among t (stagesFrom k (s + 1) words))
         → Among t (cond h (s ∷ stagesFrom k (s + 1) words) (stagesFrom k (s + 1) words))
-    go true e rec = ⊎-elim (λ (x : s < t). inr (rec (later x))) (λ (x : t ≤ s). inl (omega (arith, i .low))) (cases-lt s t)
+    go true e rec =
+        ⊎-elim (λ (x : s < t). inr (rec (later x))) (λ (x : t ≤ s). inl (omega (arith, i .low))) (cases-lt s t)
     go false e rec =
-        ⊎-elim (λ (x : s < t). rec (later x)) (λ (x : t ≤ s). absurd (subst T e (at (omega (arith, i .low))))) (cases-lt s t)
+        ⊎-elim (λ (x : s < t). rec (later x)) (λ (x : t ≤ s). absurd (subst T e (at (omega (arith, i .low)))))
+        (cases-lt s t)
 
 -- The stages that the sheet of a check names for the last line are those at which the rule holds.
 where-named : (p : Prog) (f : tree.Rule) (was sheet : List ℕ) → length (p .stages) ≤ length sheet
@@ -107,13 +109,16 @@ where-named p f was sheet room names =
       within = λ s a. omega (arith, among-in k 0 words s a .high);
       exact = λ s l.
           let named = names .exact k (omega (arith, some-line f)) s l in
-          let word : getD words (s - 0) 0 ≡ getD sheet s 0 = ap (λ i. getD words i 0) (omega arith) ∙ getD-take n sheet s 0 l in
+          let word : getD words (s - 0) 0 ≡ getD sheet s 0 = ap (λ i. getD words i 0) (omega arith)
+          ∙ getD-take n sheet s 0 l in
           let same : ruleAt (linesOf f) k ≡ f = last-rule f in (
-            λ a. subst (λ r. Holds (graph p) r s) same (named .0 (subst (λ w. T (holdsIn k w)) word (among-in k 0 words s a .holds))),
+            λ a. subst (λ r. Holds (graph p) r s) same (named .0
+                (subst (λ w. T (holdsIn k w)) word (among-in k 0 words s a .holds))),
             λ h. in-among k 0 words s (record {
               low = omega arith;
               high = omega arith;
-              holds = subst (λ w. T (holdsIn k w)) (sym word) (named .1 (subst (λ r. Holds (graph p) r s) (sym same) h));
+              holds = subst (λ w. T (holdsIn k w)) (sym word)
+                  (named .1 (subst (λ r. Holds (graph p) r s) (sym same) h));
             }),
           );
     }
@@ -129,7 +134,8 @@ told p text was after (Ok lines) h enough kept =
       reads = h .1;
       checkable = outcome .0 .0;
       lines-are = outcome .1;
-      stages-are = subst (λ n. Where p f (stagesOf (n - 1) (take (length (p .stages)) (after .sheet)))) (sym (outcome .1))
+      stages-are = subst (λ n. Where p f (stagesOf (n - 1) (take (length (p .stages)) (after .sheet))))
+          (sym (outcome .1))
           (where-named p f (was .sheet) (after .sheet) (omega (arith, enough .0)) (outcome .2 .names));
     }
 told p text was after (Err (Text e)) h enough kept = h .0
@@ -138,7 +144,8 @@ told p text was after (Err (DeadEnd s)) h enough kept = ((h .0, h .1), h .2 .0)
 told p text was after (Err (StillCycle s)) h enough kept = ((h .0, h .1), h .2 .0 .0, h .2 .0 .1, h .2 .0 .2)
 told p text was after (Err ShortMemory) h enough kept = h .2 .0 .1 enough
 
-pub lined : (p : Prog) (text : List ℕ) (was after : Memory) (r : Result ℕ CheckFault) → Check p text was after r → Lined r
+pub lined : (p : Prog) (text : List ℕ) (was after : Memory) (r : Result ℕ CheckFault) → Check p text was after r
+    → Lined r
 lined p text was after (Ok lines) h = (omega (arith, some-line (h .0), h .2 .1), omega (arith, h .1 .few, h .2 .1))
 lined p text was after (Err fault) h = tt
 
@@ -146,9 +153,11 @@ answer-ok : (r : Result ℕ CheckFault) (words : List ℕ) → isOk r ≡ isOk (
 answer-ok (Ok lines) words = refl
 answer-ok (Err fault) words = refl
 
-pub adds : (p : Prog) (n : ℕ) (text before after words : List ℕ) (was left : Memory) (r : Result ℕ CheckFault) (checked : Bool)
+pub adds : (p : Prog) (n : ℕ) (text before after words : List ℕ) (was left : Memory) (r : Result ℕ CheckFault)
+    (checked : Bool)
     → Check p text was left r → Enough (length (p .stages)) was → length (left .sheet) ≡ length (was .sheet)
-    → words ≡ take (length (p .stages)) (left .sheet) → after ≡ before ++ ruleBytes n (answerOf r words) → checked ≡ isOk r
+    → words ≡ take (length (p .stages)) (left .sheet) → after ≡ before ++ ruleBytes n (answerOf r words)
+    → checked ≡ isOk r
     → Adds p n text before after checked
 adds p n text before after words was left r checked h enough kept is e ok =
     record {

@@ -46,7 +46,8 @@ holdsLine stages = codes "holds=" ++ (listed stages ++ 10 ∷ [])
 -- A refusal, with the line of the page or the stage that it names.
 abbrev pub refused : ConsoleFault → List ℕ
 refused (Page fault) = field (codes "refused=") (faultNumber fault) ++ field (codes "line=") (faultLine fault)
-refused (Rule fault) = field (codes "refused=") (check.faultNumber fault) ++ field (codes "at=") (check.faultStage fault)
+refused (Rule fault) = field (codes "refused=") (check.faultNumber fault) ++ field (codes "at=")
+    (check.faultStage fault)
 
 -- The console's answer to a rule: the number of its lines and the stages at which it holds, or the refusal.
 abbrev pub Answer : Type 0

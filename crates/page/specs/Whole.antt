@@ -18,18 +18,19 @@ abbrev pub fullRoom : Caps
 fullRoom = record { stages = mostStages; moves = mostMoves }
 
 -- The whole page is in form and its edits are accepted; each of its rules is answered on the program that they make.
-pub record PageAnswered (caps : Caps) (start : Prog) (page bytes : List ℕ) (stages moves checked declined : ℕ) : Type 0 where
-  pub lines : List Line
-  pub made : Prog
-  pub answers : List Answer
-  pub short : length page ≤ mostBytes
-  pub took : Took caps start page lines [] made
-  pub answered : AllAnswered made (textsOf lines) answers
-  pub bytes-are : bytes ≡ bytesFrom 0 answers
-  pub stages-are : stages ≡ length (made .stages)
-  pub moves-are : moves ≡ length (made .moves)
-  pub checked-is : checked ≡ checkedAmong answers
-  pub declined-is : checked + declined ≡ length answers
+pub record PageAnswered (caps : Caps) (start : Prog) (page bytes : List ℕ) (stages moves checked declined : ℕ) : Type 0
+  where
+    pub lines : List Line
+    pub made : Prog
+    pub answers : List Answer
+    pub short : length page ≤ mostBytes
+    pub took : Took caps start page lines [] made
+    pub answered : AllAnswered made (textsOf lines) answers
+    pub bytes-are : bytes ≡ bytesFrom 0 answers
+    pub stages-are : stages ≡ length (made .stages)
+    pub moves-are : moves ≡ length (made .moves)
+    pub checked-is : checked ≡ checkedAmong answers
+    pub declined-is : checked + declined ≡ length answers
 
 -- A page is answered rule by rule, or refused for the first line that is out of form or has a refused edit.
 abbrev pub Answers-page : Caps → Prog → List ℕ → List ℕ → Summary → Type 0

@@ -7,14 +7,16 @@ use Rattle.layout.proofs.line.read_move.Needs as need
 pub returns-in-Break-leaves : need.returns-in-Break-leaves
 returns-in-Break-leaves c =
     rw (c .from-residual .ensures)
-    (λ m f e. no-cut 44 (c .args .text .now) (decimal (m .0)) (decimal (m .1) ++ 44 ∷ decimal (m .2)) (c .in-Break-leaves .ensures tt) e)
+    (λ m f e. no-cut 44 (c .args .text .now) (decimal (m .0)) (decimal (m .1) ++ 44 ∷ decimal (m .2))
+    (c .in-Break-leaves .ensures tt) e)
 
 pub returns-in-Break-minutes : need.returns-in-Break-minutes
 returns-in-Break-minutes c =
     rw (c .from-residual-in-Break-minutes .ensures)
     (λ m f e.
     let p = number-first (m .0) (decimal (m .1) ++ 44 ∷ decimal (m .2)) (c .in-Continue-leaves .ensures tt) (f .0) e in
-    no-cut 44 (c .in-Continue-leaves .rest .now) (decimal (m .1)) (decimal (m .2)) (c .in-Break-minutes .ensures tt) (p .1))
+    no-cut 44 (c .in-Continue-leaves .rest .now) (decimal (m .1)) (decimal (m .2)) (c .in-Break-minutes .ensures tt)
+    (p .1))
 
 pub returns-in-Break-read-number : need.returns-in-Break-read-number
 returns-in-Break-read-number c =

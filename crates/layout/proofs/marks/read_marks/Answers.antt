@@ -5,28 +5,29 @@ use Rattle.layout.proofs.marks.read_marks.Needs as need
 pub loop-letter-holds : need.loop-letter-holds
 loop-letter-holds c = no-letter-yet (c .args .text .now)
 
-pub returns-then-letter-next : need.returns-then-letter-next
-returns-then-letter-next c =
+pub returns-then-not-is-letter : need.returns-then-not-is-letter
+returns-then-not-is-letter c =
     λ m h e.
     let t = c .args .text .now in
     no-rise t (c .loop-letter .letter-index) (c .loop-letter .next) (c .loop-letter .marks) (c .loop-letter-test .taken)
-    (c .loop-letter .inv) (λ lo hi. elim (c .then-letter-next .came) [ need.then-letter-next·by·then-letter-next w ↦ omega arith | need.then-letter-next·by·else-letter-next·then-letter-gt112 w ↦ omega arith ]) (rising-read t m e)
+    (c .loop-letter .inv) (λ lo hi. c .if-not-is-letter .ensures tt (lo, hi)) (rising-read t m e)
 
 pub sub-marks : need.sub-marks
-sub-marks c = omega (arith, c .loop-letter .inv .low)
+sub-marks c = omega (arith, c .loop-letter .inv .low, c .if-not-is-letter .ensures tt .0)
 
 pub add-marks : need.add-marks
 add-marks c =
     omega (
       arith,
       marks-fit (c .args .text .now) (c .loop-letter .letter-index) (c .loop-letter .next) (c .loop-letter .marks)
-          (c .loop-letter .inv) (c .if-letter-next .left) (c .if-letter-gt112 .left),
+          (c .loop-letter .inv) (c .if-not-is-letter .ensures tt .0) (c .if-not-is-letter .ensures tt .1),
     )
 
 pub loop-letter-again : need.loop-letter-again
 loop-letter-again c =
     one-more (c .args .text .now) (c .loop-letter .letter-index) (c .loop-letter .next) (c .loop-letter .marks)
-    (c .loop-letter-test .taken) (c .loop-letter .inv) (c .if-letter-next .left) (c .if-letter-gt112 .left)
+    (c .loop-letter-test .taken) (c .loop-letter .inv) (c .if-not-is-letter .ensures tt .0)
+    (c .if-not-is-letter .ensures tt .1)
 
 pub returns : need.returns
 returns c =

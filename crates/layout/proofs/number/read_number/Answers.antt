@@ -1,28 +1,32 @@
 use native.Mathlib.Omega.{arith}
 use mathlib.Core.Path.{_≡_, subst}
 use mathlib.Core.Logic.{⊎-elim}
-use Prim.Native.Nat.{_≤_, _<_}
-use lib.ListN.{length, getD}
+use Prim.Native.Nat.{_<_}
+use lib.ListN.{length}
 use Rattle.layout.proofs.Decimals.{Front, small-writes, front-more, front-small, all-digits}
 use Rattle.layout.proofs.number.read_number.Needs as need
 
-pub returns-then-text-eq0 : need.returns-then-text-eq0
-returns-then-text-eq0 c =
+pub returns-then-not-is-shaped : need.returns-then-not-is-shaped
+returns-then-not-is-shaped c =
     λ n s e.
     let w = small-writes (c .args .text .now) n s e in
-    ⊎-elim (λ z. omega (arith, w .0 .some)) (λ z. omega arith) (c .then-text-eq0 .either)
-
-pub returns-then-text-gt1 : need.returns-then-text-gt1
-returns-then-text-gt1 c =
-    λ n s e. let w = small-writes (c .args .text .now) n s e in omega (arith, w .0 .plain (c .if-text-eq48 .taken))
+    c .if-not-is-shaped .ensures tt (w .0 .plain, w .1)
 
 pub mul-value : need.mul-value
 mul-value c =
-    omega (arith, front-small (c .args .text .now) (c .loop-b .b-index) (c .loop-b .value) (omega arith) (omega arith) (c .loop-b .inv))
+    let few = c .if-not-is-shaped .ensures tt .1 in
+    omega (
+      arith,
+      front-small (c .args .text .now) (c .loop-b .b-index) (c .loop-b .value) few (omega arith) (c .loop-b .inv),
+    )
 
 pub add-value : need.add-value
 add-value c =
-    omega (arith, front-small (c .args .text .now) (c .loop-b .b-index) (c .loop-b .value) (omega arith) (omega arith) (c .loop-b .inv))
+    let few = c .if-not-is-shaped .ensures tt .1 in
+    omega (
+      arith,
+      front-small (c .args .text .now) (c .loop-b .b-index) (c .loop-b .value) few (omega arith) (c .loop-b .inv),
+    )
 
 pub returns-then-not-is-ascii-digit : need.returns-then-not-is-ascii-digit
 returns-then-not-is-ascii-digit c =
@@ -41,5 +45,5 @@ pub returns : need.returns
 returns c =
     let t = c .args .text .now in
     let i : c .loop-b .b-index ≡ length t = omega arith in
-    let plain : getD t 0 0 ≡ 48 → length t ≤ 1 = λ z. ⊎-elim (λ w. w .1) (λ n. absurd (n z)) (c .else-text-eq48 .either) in
-    all-digits t (c .loop-b .value) (omega arith) (omega arith) plain (subst (λ k. Front t k (c .loop-b .value)) i (c .loop-b .inv))
+    all-digits t (c .loop-b .value) (c .if-not-is-shaped .ensures tt)
+    (subst (λ k. Front t k (c .loop-b .value)) i (c .loop-b .inv))

@@ -17,13 +17,15 @@ loop-stage-again c =
           (ap vec-items (w .out-is)) (w .begun-is)
       | else-holds-in w ↦
           listed-as
-          (one-passed (c .loop-stage-test .taken) (c .loop-stage .inv) (sym (c .holds-in .ensures) ∙ w .if-holds-in .left))
+          (one-passed (c .loop-stage-test .taken) (c .loop-stage .inv)
+          (sym (c .holds-in .ensures) ∙ w .if-holds-in .left))
           (ap vec-items (w .out-is)) (w .begun-is)
     ]
 
 pub returns : need.returns
 returns c =
-    three-pieces (vec-items (c .args .out .now)) (codes "holds=") (listed (stagesOf (c .args .line) (c .args .sheet .now))) (10 ∷ [])
+    three-pieces (vec-items (c .args .out .now)) (codes "holds=")
+    (listed (stagesOf (c .args .line) (c .args .sheet .now))) (10 ∷ [])
     (vec-items (c .push .last .self)) (vec-items (c .extend-from-slice .last .self)) (vec-items (c .loop-stage .out))
     (c .in-Continue-extend-from-slice .ensures tt .items) (all-listed (c .loop-stage-test .left) (c .loop-stage .inv))
     (c .in-Continue-push .ensures tt .items)

@@ -14,12 +14,15 @@ returns-in-Continue-write-holds c =
     three-pieces before (field (codes "rule=") (c .args .number)) (field (codes "lines=") (c .in-Ok .lines))
     (holdsLine (stagesOf (c .in-Ok .lines - 1) (c .args .sheet .now))) (vec-items (c .write-holds .last .out))
     (vec-items (c .write-field .last .out)) (vec-items (c .write-field-in-Ok .last .out))
-    (c .in-Continue-write-field .ensures tt) (c .in-Continue-write-field-2 .ensures tt) (c .in-Continue-write-holds .ensures tt)
+    (c .in-Continue-write-field .ensures tt) (c .in-Continue-write-field-2 .ensures tt)
+    (c .in-Continue-write-holds .ensures tt)
     ∙ ap (λ a. before ++ ruleBytes (c .args .number) (answerOf a (c .args .sheet .now))) (sym (c .in-Ok .is))
 
 pub returns-in-Continue-write-refused : need.returns-in-Continue-write-refused
 returns-in-Continue-write-refused c =
     let before = vec-items (c .args .out .now) in
-    two-pieces before (field (codes "rule=") (c .args .number)) (refused (Rule (c .in-Err .fault))) (vec-items (c .write-refused .last .out))
-    (vec-items (c .write-field .last .out)) (c .in-Continue-write-field .ensures tt) (c .in-Continue-write-refused .ensures tt)
+    two-pieces before (field (codes "rule=") (c .args .number)) (refused (Rule (c .in-Err .fault)))
+    (vec-items (c .write-refused .last .out))
+    (vec-items (c .write-field .last .out)) (c .in-Continue-write-field .ensures tt)
+    (c .in-Continue-write-refused .ensures tt)
     ∙ ap (λ a. before ++ ruleBytes (c .args .number) (answerOf a (c .args .sheet .now))) (sym (c .in-Err .is))

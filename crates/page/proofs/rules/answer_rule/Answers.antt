@@ -19,7 +19,8 @@ returns g c =
     let shortest : 4 * length (p .stages) ≤ length (desk .shortest) = omega arith in
     let longest : 4 * length (p .stages) ≤ length (desk .longest) = omega arith in
     let all : c .stage-count .result - 0 ≡ length (p .stages) = omega (arith, c .stage-count .ensures) in
-    adds p (c .args .number) (c .args .text .now) (vec-items (c .args .out .now)) (vec-items (c .write-rule .last .out)) _ _ _
+    adds p (c .args .number) (c .args .text .now) (vec-items (c .args .out .now))
+    (vec-items (c .write-rule .last .out)) _ _ _
     (c .check-answer .result) (c .is-ok .result) (c .check-answer .ensures) (sheet, reached, shortest, longest)
     (c .check-answer .kept .sheet) (ap (λ n. take n (c .check-answer .last .sheet)) all)
     (c .in-Continue-write-rule .ensures tt) (c .is-ok .ensures .value)
