@@ -88,7 +88,11 @@ pub impl<'a> Program for Schedule<'a> as ScheduleProgram {
                 return Move {
                     leaves: 2 * i as u16 + 1,
                     minutes: within_a_week(segment.hold),
-                    enters: if i + 1 < self.segments.len() { 2 * i as u16 + 2 } else { 0 },
+                    enters: if i + 1 < self.segments.len() {
+                        2 * i as u16 + 2
+                    } else {
+                        0
+                    },
                 };
             }
         }
