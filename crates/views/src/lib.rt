@@ -1,2 +1,4 @@
-// Readable programs that are not stores: a schedule, worked out from a list of segments.
+// Readable programs that are not stores: a schedule, worked out from a list of segments, and the minute by minute view of
+// any readable program. Neither takes heap memory.
+pub mod minute;
 pub mod schedule;
