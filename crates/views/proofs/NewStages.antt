@@ -10,6 +10,7 @@ use Rattle.std.proofs.shelf.Lists.{length-set, getD-set-same, getD-set-other, g
 use Rattle.std.proofs.shelf.Tests.{cases-lt}
 use Rattle.program.specs.declared.Move.{Move}
 use Rattle.program.specs.Meaning.{Prog, Limits, Fits, moveAt, noMove, mostMinutes, mostMoves}
+use Rattle.program.specs.Edits.{leads}
 use Rattle.views.specs.Minutes.{through, madeBy, inside, minuteMoves, newStages}
 use Rattle.views.specs.NewStages.{entry, Rising, tableMoves}
 
@@ -24,6 +25,18 @@ through-fits zero d s n t c (suc j) ls lt ln ld l = absurd (omega arith)
 through-fits (suc e) d s n t c zero ls lt ln ld l = (ls, omega arith, ld)
 through-fits (suc e) d s n t c (suc j) ls lt ln ld l =
     through-fits e d n (suc n) t c j (omega arith) lt (omega arith) ld (omega arith)
+
+-- the j-th of these moves, by its two ends
+pub through-at : (e d s n t j l r : ℕ) → j ≤ e → (j ≡ 0 → l ≡ s) → (0 < j → l ≡ n + j - 1) → (j ≡ e → r ≡ t)
+    → (j < e → r ≡ n + j) → leads l d r ≡ getD (through e d s n t) j noMove
+through-at zero d s n t zero l r h from from′ to to′ = let a = from refl in let b = to refl in cc
+through-at zero d s n t (suc j) l r h from from′ to to′ = absurd (not-suc-le-zero h)
+through-at (suc e) d s n t zero l r h from from′ to to′ =
+    let a = from refl in let b = to′ (omega arith) in let c : r ≡ n = omega arith in cc
+through-at (suc e) d s n t (suc j) l r h from from′ to to′ =
+    let a = from′ (omega arith) in
+    through-at e d n (suc n) t j l r (omega arith) (λ z. omega arith) (λ z. omega arith) (λ z. to (ap suc z))
+    (λ z. let b = to′ (omega arith) in omega arith)
 
 length-made : (e : ℕ) (m : Move) (n : ℕ) → length (madeBy e m n) ≡ suc e
 length-made e m n = length-through e (min (m .minutes) 1) (m .leaves) n (m .enters)
@@ -43,7 +56,7 @@ module _ (es : List ℕ) (up : Rising es) where
   abbrev between : ℕ → ℕ
   between k = entry es (suc k) - entry es k
 
-  abbrev makes : ℕ → ℕ → Move → List Move
+  abbrev pub makes : ℕ → ℕ → Move → List Move
   makes n k m = madeBy (between k) m (n + entry es k)
 
   pub length-table : (n k j : ℕ) (ms : List Move) → j ≡ k + length ms → j ≤ mostMoves
@@ -154,8 +167,10 @@ filled-more p es k d f l e s =
   where
     here : entry (set es (k + 1) (entry es k + d)) (k + 1) ≡ entry es k + d
     here = let b = f .all in getD-set-same es (k + 1) (entry es k + d) 0 (omega arith)
+
     kept : (i : ℕ) → i ≤ k → entry (set es (k + 1) (entry es k + d)) i ≡ entry es i
     kept i h = getD-set-other es (k + 1) i (entry es k + d) 0 (λ z. absurd (omega arith))
+
     go : (i : ℕ) → (i < k) ⊎ (k ≤ i) → i < k + 1
         → entry (set es (k + 1) (entry es k + d)) (suc i)
         ≡ entry (set es (k + 1) (entry es k + d)) i + inside (moveAt p i)

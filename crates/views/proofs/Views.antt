@@ -5,16 +5,23 @@ use mathlib.Core.Bool.{true, false, cond}
 use mathlib.Core.Logic.{_⊎_, inl, inr, ⊎-elim}
 use Prim.Native.Nat.{ℕ, zero, suc, _+_, _-_, _≤_, _<_}
 use native.Mathlib.Nat.{not-suc-le-zero}
+use native.Mathlib.Numerals.{add-one}
 use native.Mathlib.Omega.{arith}
 use lib.ListN.{length, getD, replicate, length-append, length-replicate}
 use lib.Dec.{leb}
 use Rattle.std.proofs.shelf.Lists.{getD-append-left, getD-append-right, getD-replicate}
 use Rattle.std.proofs.shelf.Tests.{cases-bool, cond-true, cond-false, le-leb, lt-leb, leb-true, and-from, and-left}
 use Rattle.std.proofs.shelf.Tests.{and-right, and-parts}
+use Rattle.program.specs.declared.Stage.{Stage}
+use Rattle.program.specs.declared.Move.{Move}
 use Rattle.program.specs.Meaning.{Prog, Limits, Fits, empty, stageAt, moveAt, noStage, noMove, mostStages, mostMoves}
-use Rattle.views.specs.Minutes.{madeBy, silentStage, within}
-use Rattle.views.specs.NewStages.{entry, Rising, tableMoves, tableProg, viewed, LengthsOf}
-use Rattle.views.proofs.NewStages.{length-table, table-move, table-fits, rises}
+use Rattle.cutting.specs.Theorems.{Agree}
+use Rattle.program.specs.Graphs.{graph}
+use Rattle.views.specs.Minutes.{madeBy, inside, minuteMoves, newStages, silentStage, minuteProg, within, ifWithin, minuteView}
+use Rattle.views.specs.Minutes.{ViewOf}
+use Rattle.views.specs.NewStages.{entry, Rising, tableMoves, tableProg, viewed, ByMinutes, LengthsOf}
+use Rattle.views.proofs.Minutes.{view-agrees}
+use Rattle.views.proofs.NewStages.{makes, length-table, table-move, table-fits, table-minutes, table-total, rises}
 
 module _ (es : List ℕ) (first : entry es 0 ≡ 0) (up : Rising es) (p : Prog) (lim : Limits p) where
   abbrev n : ℕ
@@ -41,19 +48,19 @@ module _ (es : List ℕ) (first : entry es 0 ≡ 0) (up : Rising es) (p : Prog) 
   hidden : within q ≡ false → viewed es p ≡ empty
   hidden h = cond-false (within q) q empty h
 
-  pub lengths-within : (s m : ℕ) → s ≡ n + entry es c → m ≡ c + entry es c → s ≤ mostStages → m ≤ mostMoves
-      → LengthsOf (viewed es p) (record { stages = s; moves = m })
-  lengths-within s m es′ em ls lm =
+  pub lengths-within : (s m : ℕ) → s ≡ n → m ≡ c → s + entry es m ≤ mostStages → m + entry es m ≤ mostMoves
+      → LengthsOf (viewed es p) (record { stages = s + entry es m; moves = m + entry es m })
+  lengths-within s m fs fm ls lm =
       let a = stages-q in
       let b = moves-q in
+      let i : entry es m ≡ entry es c = ap (entry es) fm in
       let h =
       shown
       (and-from (leb (length (q .stages)) mostStages) (leb (length (q .moves)) mostMoves)
       (le-leb (length (q .stages)) mostStages (omega arith)) (le-leb (length (q .moves)) mostMoves (omega arith))) in
-      record {
-        stages = es′ ∙ sym a ∙ sym (ap (λ (x : Prog). length (x .stages)) h);
-        moves = em ∙ sym b ∙ sym (ap (λ (x : Prog). length (x .moves)) h);
-      }
+      let x = ap (λ (x : Prog). length (x .stages)) h in
+      let y = ap (λ (x : Prog). length (x .moves)) h in
+      record { stages = omega arith; moves = omega arith }
 
   none : within q ≡ false → LengthsOf (viewed es p) (record { stages = 0; moves = 0 })
   none e =
@@ -62,15 +69,19 @@ module _ (es : List ℕ) (first : entry es 0 ≡ 0) (up : Rising es) (p : Prog) 
         moves = sym (ap (λ (x : Prog). length (x .moves)) (hidden e));
       }
 
-  pub no-lengths : (mostStages < n + entry es c) ⊎ (mostMoves < c + entry es c)
+  pub no-lengths : (s m : ℕ) → s ≡ n → m ≡ c → (mostStages < s + entry es m) ⊎ (mostMoves < m + entry es m)
       → LengthsOf (viewed es p) (record { stages = 0; moves = 0 })
-  no-lengths (inl h) =
+  no-lengths s m fs fm (inl h) =
       let a = stages-q in
-      none (and-left (leb (length (q .stages)) mostStages) (leb (length (q .moves)) mostMoves)
+      let i : entry es m ≡ entry es c = ap (entry es) fm in
+      none
+      (and-left (leb (length (q .stages)) mostStages) (leb (length (q .moves)) mostMoves)
       (lt-leb (length (q .stages)) mostStages (omega arith)))
-  no-lengths (inr h) =
+  no-lengths s m fs fm (inr h) =
       let a = moves-q in
-      none (and-right (leb (length (q .stages)) mostStages) (leb (length (q .moves)) mostMoves)
+      let i : entry es m ≡ entry es c = ap (entry es) fm in
+      none
+      (and-right (leb (length (q .stages)) mostStages) (leb (length (q .moves)) mostMoves)
       (lt-leb (length (q .moves)) mostMoves (omega arith)))
 
   -- a view that has a stage, or a move, is not cut short
@@ -96,28 +107,38 @@ module _ (es : List ℕ) (first : entry es 0 ≡ 0) (up : Rising es) (p : Prog) 
       ∙ sym (getD-append-right (p .stages) (replicate (entry es c) silentStage) n s noStage refl h)
       ∙ sym (ap (λ (x : Prog). stageAt x s) e)
 
-  -- The numbers that an answer on a move comes to.
-  pub record Small (k : ℕ) : Type 0 where
-    pub real : k < entry es c + c
-    pub stages : n + entry es c ≤ mostStages
-
-  pub small : (k : ℕ) → k < length (viewed es p .moves) → Small k
-  small k l =
-      let h = move-within k l in
-      let i = and-parts (leb (length (q .stages)) mostStages) (leb (length (q .moves)) mostMoves) h in
-      let a = stages-q in
+  pub move-below : (k m : ℕ) → k < length (viewed es p .moves) → m ≡ c → k < entry es m + m
+  move-below k m l fm =
+      let a = ap (λ (x : Prog). length (x .moves)) (shown (move-within k l)) in
       let b = moves-q in
-      let d = ap (λ (x : Prog). length (x .moves)) (shown h) in
-      let f = leb-true (length (q .stages)) mostStages (i .0) in
-      record { real = omega arith; stages = omega arith }
+      let i : entry es m ≡ entry es c = ap (entry es) fm in
+      omega arith
 
-  pub new-move : (k old place : ℕ) → k < length (viewed es p .moves) → old < c
-      → place ≤ entry es (suc old) - entry es old → k ≡ entry es old + old + place
-      → getD (madeBy (entry es (suc old) - entry es old) (moveAt p old) (n + entry es old)) place noMove
-      ≡ moveAt (viewed es p) k
-  new-move k old place l lo lp ek =
+  -- the new stages of a move have numbers of stages
+  pub stages-below : (k old s : ℕ) → k < length (viewed es p .moves) → old < c → s ≡ n
+      → s + entry es old + (entry es (old + 1) - entry es old) ≤ mostStages
+  stages-below k old s l lo fs =
+      let h = and-parts (leb (length (q .stages)) mostStages) (leb (length (q .moves)) mostMoves) (move-within k l) in
+      let a = leb-true (length (q .stages)) mostStages (h .0) in
+      let b = stages-q in
       let d = lim .few-moves in
-      sym (table-move es up n 0 old k place old (p .moves) lo (omega arith) (omega arith) lp (omega arith))
+      let r = rises es up (old + 1) c (omega arith) d in
+      let r′ = rises es up old (old + 1) (omega arith) (omega arith) in
+      omega arith
+
+  pub new-move : (k old s : ℕ) (m : Move) → k < length (viewed es p .moves) → old < c → s ≡ n → m ≡ moveAt p old
+      → entry es old + old ≤ k → k ≤ entry es (old + 1) + old
+      → getD (madeBy (entry es (old + 1) - entry es old) m (s + entry es old)) (k - entry es old - old) noMove
+      ≡ moveAt (viewed es p) k
+  new-move k old s m l lo fs fm low high =
+      let d = lim .few-moves in
+      let i : entry es (old + 1) ≡ entry es (suc old) = ap (entry es) (add-one old) in
+      let j : getD (madeBy (entry es (old + 1) - entry es old) m (s + entry es old)) (k - entry es old - old) noMove
+      ≡ getD (makes es up n old (moveAt p old)) (k - entry es old - old) noMove = cc in
+      j
+      ∙ sym
+      (table-move es up n 0 old k (k - entry es old - old) old (p .moves) lo (omega arith) (omega arith) (omega arith)
+      (omega arith))
       ∙ sym (ap (λ (x : Prog). moveAt x k) (shown (move-within k l)))
 
   pub view-limits : Limits (viewed es p)
@@ -127,6 +148,7 @@ module _ (es : List ℕ) (first : entry es 0 ≡ 0) (up : Rising es) (p : Prog) 
       nothing h =
           subst Limits (sym (hidden h))
           (record { few-stages = omega arith; few-moves = omega arith; ends = λ k l. absurd (not-suc-le-zero l) })
+
       whole : within q ≡ true → Limits (viewed es p)
       whole h =
           let i = and-parts (leb (length (q .stages)) mostStages) (leb (length (q .moves)) mostMoves) h in
@@ -138,3 +160,30 @@ module _ (es : List ℕ) (first : entry es 0 ≡ 0) (up : Rising es) (p : Prog) 
                 table-fits es up n 0 (length (q .stages)) c k (p .moves)
                 (λ j u. (lim .ends j u .0, lim .ends j u .1)) (omega arith) (lim .few-moves) stages-q l;
           })
+
+  -- a table that goes by the minutes
+  pub view-of : ByMinutes es p → ViewOf p (viewed es p)
+  view-of h =
+      record { lists = same; agrees = λ w. subst (λ x. Agree (graph p) (graph x)) (sym same) (view-agrees p lim w) }
+    where
+      from : (i k : ℕ) → i < c → k ≡ 0 + i → entry es (suc k) ≡ entry es k + inside (moveAt p i)
+      from i k l e =
+          let d = lim .few-moves in
+          let z : k ≡ i = omega arith in
+          subst (λ x. entry es (suc k) ≡ entry es k + inside (moveAt p x)) z (h k (omega arith))
+
+      same-moves : q .moves ≡ minuteProg p .moves
+      same-moves =
+          let z : n + entry es 0 ≡ n = omega arith in
+          table-minutes es n 0 (p .moves) from ∙ ap (minuteMoves (p .moves)) z
+
+      same-stages : q .stages ≡ minuteProg p .stages
+      same-stages =
+          let a = table-total es 0 c (p .moves) from (omega arith) in
+          let z : entry es c ≡ newStages (p .moves) = omega arith in
+          ap (λ x. p .stages ++ replicate x silentStage) z
+
+      same : viewed es p ≡ minuteView p
+      same =
+          ap (λ (xs : List Stage). ifWithin (record { stages = xs; moves = q .moves })) same-stages
+          ∙ ap (λ (ms : List Move). ifWithin (record { stages = minuteProg p .stages; moves = ms })) same-moves

@@ -1,14 +1,19 @@
--- The minute program of a program: each move of two minutes and more is made by moves of one minute.
+-- The minute program of a program: each move of two minutes and more is made by moves of one minute. What a view of
+-- it promises.
+use mathlib.Core.Path.{_≡_}
 use mathlib.Core.List.{List, [], _∷_, _++_}
-use mathlib.Core.Bool.{Bool, cond, _&&_}
+use mathlib.Core.Bool.{Bool, true, cond, _&&_}
 use Prim.Native.Nat.{ℕ, zero, suc, min, _+_, _-_}
 use lib.ListN.{length, replicate}
 use lib.Dec.{leb}
+use Rattle.cutting.specs.Minute.{minute}
+use Rattle.cutting.specs.Theorems.{Agree}
 use Rattle.program.specs.declared.Kind.the-variants.{Silent}
 use Rattle.program.specs.declared.Stage.{Stage}
 use Rattle.program.specs.declared.Move.{Move}
 use Rattle.program.specs.Meaning.{Prog, empty, mostStages, mostMoves}
 use Rattle.program.specs.Edits.{leads}
+use Rattle.program.specs.Graphs.{graph}
 
 -- e + 1 moves of d minutes each from s to t, through e stages that are numbered from n on.
 abbrev pub through : ℕ → ℕ → ℕ → ℕ → ℕ → List Move
@@ -53,3 +58,13 @@ ifWithin p = cond (within p) p empty
 
 abbrev pub minuteView : Prog → Prog
 minuteView p = ifWithin (minuteProg p)
+
+-- A view has the lists of the minute program, and unless that is too large, the same rules hold at the same stages as in
+-- the program below, and both may be checked, or neither.
+pub record ViewOf (below view : Prog) : Type 0 where
+  pub lists : view ≡ minuteView below
+  pub agrees : within (minuteProg below) ≡ true → Agree (graph below) (graph view)
+
+-- The minute program on a program's lists is the minute program of its graph.
+abbrev pub Minute-graph : Type 0
+Minute-graph = (p : Prog) → graph (minuteProg p) ≡ minute (graph p)
