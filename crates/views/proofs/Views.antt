@@ -17,13 +17,17 @@ use Rattle.program.specs.declared.Move.{Move}
 use Rattle.program.specs.Meaning.{Prog, Limits, Fits, empty, stageAt, moveAt, noStage, noMove, mostStages, mostMoves}
 use Rattle.cutting.specs.Theorems.{Agree}
 use Rattle.program.specs.Graphs.{graph}
+use Rattle.views.specs.declared.minute.new_stages.NewStages.{NewStages}
 use Rattle.views.specs.Minutes.{madeBy, inside, minuteMoves, newStages, silentStage, minuteProg, within, ifWithin, minuteView}
 use Rattle.views.specs.Minutes.{ViewOf}
 use Rattle.views.specs.NewStages.{entry, Rising, tableMoves, tableProg, viewed, ByMinutes, LengthsOf}
 use Rattle.views.proofs.Minutes.{view-agrees}
 use Rattle.views.proofs.NewStages.{makes, length-table, table-move, table-fits, table-minutes, table-total, rises}
 
-module _ (es : List ℕ) (first : entry es 0 ≡ 0) (up : Rising es) (p : Prog) (lim : Limits p) where
+module _ (t : NewStages) (p : Prog) (lim : Limits p) where
+  abbrev es : List ℕ
+  es = t .before
+
   abbrev n : ℕ
   n = length (p .stages)
 
@@ -40,7 +44,7 @@ module _ (es : List ℕ) (first : entry es 0 ≡ 0) (up : Rising es) (p : Prog) 
 
   moves-q : length (q .moves) ≡ c + entry es c
   moves-q =
-      let a = length-table es up n 0 c (p .moves) (omega arith) (lim .few-moves) in omega arith
+      let a = length-table es (t .rising) n 0 c (p .moves) (omega arith) (lim .few-moves) in omega arith
 
   shown : within q ≡ true → viewed es p ≡ q
   shown h = cond-true (within q) q empty h
@@ -122,8 +126,8 @@ module _ (es : List ℕ) (first : entry es 0 ≡ 0) (up : Rising es) (p : Prog) 
       let a = leb-true (length (q .stages)) mostStages (h .0) in
       let b = stages-q in
       let d = lim .few-moves in
-      let r = rises es up (old + 1) c (omega arith) d in
-      let r′ = rises es up old (old + 1) (omega arith) (omega arith) in
+      let r = rises es (t .rising) (old + 1) c (omega arith) d in
+      let r′ = rises es (t .rising) old (old + 1) (omega arith) (omega arith) in
       omega arith
 
   pub new-move : (k old s : ℕ) (m : Move) → k < length (viewed es p .moves) → old < c → s ≡ n → m ≡ moveAt p old
@@ -134,10 +138,10 @@ module _ (es : List ℕ) (first : entry es 0 ≡ 0) (up : Rising es) (p : Prog) 
       let d = lim .few-moves in
       let i : entry es (old + 1) ≡ entry es (suc old) = ap (entry es) (add-one old) in
       let j : getD (madeBy (entry es (old + 1) - entry es old) m (s + entry es old)) (k - entry es old - old) noMove
-      ≡ getD (makes es up n old (moveAt p old)) (k - entry es old - old) noMove = cc in
+      ≡ getD (makes es (t .rising) n old (moveAt p old)) (k - entry es old - old) noMove = cc in
       j
       ∙ sym
-      (table-move es up n 0 old k (k - entry es old - old) old (p .moves) lo (omega arith) (omega arith) (omega arith)
+      (table-move es (t .rising) n 0 old k (k - entry es old - old) old (p .moves) lo (omega arith) (omega arith) (omega arith)
       (omega arith))
       ∙ sym (ap (λ (x : Prog). moveAt x k) (shown (move-within k l)))
 
@@ -157,7 +161,7 @@ module _ (es : List ℕ) (first : entry es 0 ≡ 0) (up : Rising es) (p : Prog) 
             few-stages = leb-true (length (q .stages)) mostStages (i .0);
             few-moves = leb-true (length (q .moves)) mostMoves (i .1);
             ends = λ k l.
-                table-fits es up n 0 (length (q .stages)) c k (p .moves)
+                table-fits es (t .rising) n 0 (length (q .stages)) c k (p .moves)
                 (λ j u. (lim .ends j u .0, lim .ends j u .1)) (omega arith) (lim .few-moves) stages-q l;
           })
 

@@ -2,3 +2,5 @@
 // any readable program. Neither takes heap memory.
 pub mod minute;
 pub mod schedule;
+#[cfg(test)]
+mod tests;

@@ -1,11 +1,11 @@
-// The minute by minute view of a program: each move of two minutes and more is made by moves of one minute, through new
-// silent stages. It holds the program below and a table of how many new stages there are; each answer is worked out.
-pub mod new_stages;
+// The minute by minute view of a program: each move of two minutes and more is made by pieces of one minute, through new
+// silent stages. The view holds the program below and a table of new stages, and works out each answer from these.
+mod new_stages;
 
 ghost use mathlib.Core.Path.{_≡_};
 ghost use Prim.Native.Nat.{_+_, _≤_};
 ghost use lib.ListN.{getD};
-ghost use Rattle.program.specs.Meaning.{noMove};
+ghost use Rattle.program.specs.Meaning.{mostStages, noMove};
 ghost use Rattle.views.specs.Minutes.{madeBy, ViewOf, Minute-graph};
 ghost use Rattle.views.specs.NewStages.{viewed, LengthsOf};
 use new_stages::NewStages;
@@ -24,14 +24,7 @@ pub struct MinuteView<'a, P> {
     new_stages: NewStages,
 }
 
-// A theorem, stated by its contract: the lists of a view are those of the minute program that the theory speaks of.
-pub fn minute_graph() -> u8
-    ensures { λ _. ⌜ Minute-graph ⌝ }
-{
-    0
-}
-
-// How many stages and moves a view has.
+// How many stages and moves a program has.
 #[derive(Clone, Copy)]
 struct Lengths {
     stages: usize,
@@ -39,6 +32,7 @@ struct Lengths {
 }
 
 impl<'a, P: Program> MinuteView<'a, P> {
+    // The view of a program. It has neither stages nor moves where the minute program has too many.
     pub fn new(program: &'a P) -> MinuteView<'a, P>
         ensures { λ r. ⌜ ViewOf (P·Program .meaning (now (program .entry)))
             (viewed (r .«new_stages» .before) (P·Program .meaning (now (r .program)))) ⌝ }
@@ -68,10 +62,10 @@ impl<'a, P: Program> MinuteView<'a, P> {
     }
 }
 
-// Of the moves that make `whole` through `inside` new stages, numbered from `first` on, the one at `place`.
+// Of the pieces of a move that goes through so many new stages inside, numbered from `first` on, the one at a place.
 fn piece(whole: Move, inside: usize, first: usize, place: usize) -> Move
     requires place { ⌜ place ≤ inside ⌝ }
-    requires fits { ⌜ first + inside ≤ 1024 ⌝ }
+    requires few { ⌜ first + inside ≤ mostStages ⌝ }
     ensures { λ r. ⌜ r ≡ getD (madeBy inside whole first) place noMove ⌝ }
 {
     let leaves = if place == 0 {
@@ -125,4 +119,11 @@ pub impl<'a, P: Program> Program for MinuteView<'a, P> as MinuteProgram {
         let first = self.program.stage_count() + before;
         piece(self.program.move_at(old), inside, first, k - before - old)
     }
+}
+
+// A theorem, stated by its contract: the minute program on a program's lists is the one that the theory speaks of.
+pub fn minute_graph() -> u8
+    ensures { λ _. ⌜ Minute-graph ⌝ }
+{
+    0
 }

@@ -19,7 +19,7 @@ find-old-requires g c κs =
     let h = g .P·Program·met .limits (x .program .now) in
     record {
       few = omega arith;
-      real = move-below (t .before) (t .first) (t .rising) (g .P·Program .meaning (x .program .now)) h (c .args .k)
+      real = move-below t (g .P·Program .meaning (x .program .now)) h (c .args .k)
           (c .move-count .result) (omega arith) (c .move-count .ensures);
     }
 
@@ -29,7 +29,7 @@ add-first g c =
     let t = x .«new_stages» in
     let h = g .P·Program·met .limits (x .program .now) in
     let u =
-    stages-below (t .before) (t .first) (t .rising) (g .P·Program .meaning (x .program .now)) h (c .args .k)
+    stages-below t (g .P·Program .meaning (x .program .now)) h (c .args .k)
     (c .find-old .result) (c .stage-count .result) (omega arith) (omega arith) (c .stage-count .ensures) in
     omega arith
 
@@ -40,7 +40,7 @@ piece-requires g c κs =
     let h = g .P·Program·met .limits (x .program .now) in
     record {
       place = omega arith;
-      fits = stages-below (t .before) (t .first) (t .rising) (g .P·Program .meaning (x .program .now)) h (c .args .k)
+      few = stages-below t (g .P·Program .meaning (x .program .now)) h (c .args .k)
           (c .find-old .result) (c .stage-count .result) (omega arith) (omega arith) (c .stage-count .ensures);
     }
 
@@ -50,6 +50,6 @@ returns g c =
     let t = x .«new_stages» in
     let h = g .P·Program·met .limits (x .program .now) in
     c .piece .ensures
-    ∙ new-move (t .before) (t .first) (t .rising) (g .P·Program .meaning (x .program .now)) h (c .args .k)
+    ∙ new-move t (g .P·Program .meaning (x .program .now)) h (c .args .k)
     (c .find-old .result) (c .stage-count .result) (c .move-at .result) (omega arith) (omega arith)
     (c .stage-count .ensures) (c .move-at .ensures) (omega arith) (omega arith)

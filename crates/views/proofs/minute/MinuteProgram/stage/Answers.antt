@@ -17,12 +17,12 @@ returns-then-s-stage-count g c =
     let x = c .args .self .now in
     let t = x .«new_stages» in
     c .stage .ensures
-    ∙ old-stage (t .before) (t .first) (t .rising) (g .P·Program .meaning (x .program .now))
+    ∙ old-stage t (g .P·Program .meaning (x .program .now))
     (g .P·Program·met .limits (x .program .now)) (c .args .s) (omega arith) (omega arith)
 
 pub returns-else-s-stage-count : need.returns-else-s-stage-count
 returns-else-s-stage-count g c =
     let x = c .args .self .now in
     let t = x .«new_stages» in
-    new-stage (t .before) (t .first) (t .rising) (g .P·Program .meaning (x .program .now))
+    new-stage t (g .P·Program .meaning (x .program .now))
     (g .P·Program·met .limits (x .program .now)) (c .args .s) (omega arith) (omega arith)

@@ -46,9 +46,7 @@ bound γ w₀ w₁ w₂ w₃ κ P laws lives below keys M 𝓤 H 𝓜 𝓖 𝓡 
     let dict = the-impl.dict P below keys in
     record {
       limits = λ x.
-          let t = x .«new_stages» in
-          view-limits (t .before) (t .first) (t .rising) (below .meaning (x .program .now))
-          (met .limits (x .program .now));
+          view-limits (x .«new_stages») (below .meaning (x .program .now)) (met .limits (x .program .now));
       «stage_count» =
           Impl.implements 𝓤 H (𝓖 .A) (own-stage-count.signature P) _ (trait-stage-count.ended row ghosts dict .signature .outlives) _
           (Running.givenOf 𝓤 H 𝓜 𝓖) _ (Table.run-framed 𝓤 H 𝓜 𝓡 (γ (Syntax.method dict 0 none)))

@@ -5,4 +5,4 @@ pub returns : need.returns
 returns g c =
     let t = c .of .result in
     let x = c .args .program .now in
-    view-of (t .before) (t .first) (t .rising) (g .P·Program .meaning x) (g .P·Program·met .limits x) (c .of .ensures)
+    view-of t (g .P·Program .meaning x) (g .P·Program·met .limits x) (c .of .ensures)
