@@ -1,0 +1,4 @@
+pub mod Segments
+pub mod Minutes
+pub mod NewStages
+pub mod Views

@@ -1,0 +1,3 @@
+pub mod Schedules
+pub mod Minutes
+pub mod NewStages
