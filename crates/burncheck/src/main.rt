@@ -35,9 +35,11 @@ fn edit_words(fault: EditFault) -> &'static str {
     match fault {
         EditFault::NoStage => "there is no such stage",
         EditFault::SilentStage => "the stage is silent",
+        EditFault::NoMove => "there is no such move",
         EditFault::TooLong => "the move takes more than 10080 minutes",
         EditFault::StagesFull => "there are too many stages",
         EditFault::MovesFull => "there are too many moves",
+        EditFault::NothingToJoin => "the last stage is not a silent one",
     }
 }
 
