@@ -138,12 +138,14 @@ module _ {X : Type 0} (l : Layout X) (law : Lawful l) where
       let n = length xs in
       let behind = drop (i + 1) xs in
       let m : (i + 1) + length behind ≡ n = simp length-drop (omega arith) in
-      let wide : w * n ≡ w * (i + 1) + w * length behind = ap (λ k. w * k) (sym m) ∙ mul-add w (i + 1) (length behind) in
+      let wide : w * n ≡ w * (i + 1) + w * length behind =
+      ap (λ k. w * k) (sym m) ∙ mul-add w (i + 1) (length behind) in
       let long : length (bytes l behind) ≡ w * n - w * (i + 1) = omega (arith, length-bytes behind) in
       ap (take (w * n - w * (i + 1))) (drop-bytes xs rest (i + 1) (omega arith)) ∙ take-at (bytes l behind) rest _ long
 
   pub takenOut-bytes : (xs : List X) (rest : List ℕ) (i : ℕ) → i < length xs
-      → takenOut (l .width) (length xs) i (bytes l xs ++ rest) ≡ bytes l (removed xs i) ++ (replicate (l .width) 0 ++ rest)
+      → takenOut (l .width) (length xs) i (bytes l xs ++ rest)
+      ≡ bytes l (removed xs i) ++ (replicate (l .width) 0 ++ rest)
   takenOut-bytes xs rest i h =
       let w = l .width in
       let n = length xs in

@@ -1,5 +1,5 @@
 -- A gap in a list is closed by moving what lies behind it down, element by element.
-use mathlib.Core.Path.{_≡_, refl, sym, ap, _∙_}
+use mathlib.Core.Path.{_≡_, sym, ap, _∙_}
 use mathlib.Core.List.{List, _++_}
 use Prim.Native.Nat.{ℕ, suc, _+_, _-_, _*_, _<_, _≤_}
 use native.Mathlib.Nat.{mul-suc, mul-le-mul-left}
@@ -8,7 +8,7 @@ use lib.ListN.{length, take, drop, getD, set, replicate}
 use lib.Seq.{paste}
 use Rattle.std.specs.Holes.{removed, between}
 use Rattle.std.proofs.shelf.Lists.{append-assoc, length-drop, length-replicate, getD-drop, drop-drop, drop-take}
-use Rattle.std.proofs.shelf.Lists.{take-take, take-all}
+use Rattle.std.proofs.shelf.Lists.{take-take}
 use Rattle.stores.specs.Areas.{put, shifted, takenOut}
 use Rattle.std.proofs.shelf.Edits.{paste-none, paste-more, length-paste, take-paste, drop-paste}
 
@@ -26,7 +26,8 @@ module _ {X : Type 0} (xs : List X) (at by : ℕ) where
     pub length-shifted : i + by ≤ length xs → length (shifted xs at by i) ≡ length xs
     length-shifted h = length-paste xs at (drop (at + by) xs) (i - at) (omega arith) (enough h)
 
-    pub take-shifted : i + by ≤ length xs → take i (shifted xs at by i) ≡ take at xs ++ take (i - at) (drop (at + by) xs)
+    pub take-shifted : i + by ≤ length xs
+        → take i (shifted xs at by i) ≡ take at xs ++ take (i - at) (drop (at + by) xs)
     take-shifted h =
         ap (λ n. take n (shifted xs at by i)) (sym back)
         ∙ take-paste xs at (drop (at + by) xs) (i - at) (omega arith) (enough h)

@@ -1,5 +1,5 @@
 -- What a join finds and makes, on any program; on a tidy one it is what the step says.
-use mathlib.Core.Path.{_≡_, refl, sym, ap, subst, _∙_}
+use mathlib.Core.Path.{_≡_, sym, ap, subst, _∙_}
 use mathlib.Core.Bool.{false}
 use mathlib.Core.Logic.{_≢_, ⊎-elim}
 use Prim.Native.Nat.{ℕ, suc, _+_, _<_, _≤_}
@@ -23,19 +23,19 @@ use Rattle.stores.specs.Allowed.{Ends}
 use Rattle.stores.specs.MoveEnds.{endOf, Only}
 use Rattle.stores.specs.Joints.{JoinAllowed}
 
--- The program without stage e, whose move in is i and whose move out is o: i does what both did.
-abbrev pub joinedAt : Prog → ℕ → ℕ → ℕ → Prog
+-- The program without stage e and without its move out, o, where m stands in the place of its move in, i.
+abbrev joinedBy : Prog → ℕ → ℕ → ℕ → Move → Prog
+joinedBy p e i o m = record { stages = take e (p .stages); moves = removed (set (p .moves) i m) o }
+
+-- There m does what both did.
+abbrev joinedAt : Prog → ℕ → ℕ → ℕ → Prog
 joinedAt p e i o =
-    let whole = leads (moveAt p i .leaves) (moveAt p i .minutes + moveAt p o .minutes) (moveAt p o .enters) in
-    record { stages = take e (p .stages); moves = removed (set (p .moves) i whole) o }
+    joinedBy p e i o
+    (leads (moveAt p i .leaves) (moveAt p i .minutes + moveAt p o .minutes) (moveAt p o .enters))
 
 -- The program without its joint.
 abbrev pub joined : Prog → Joint → Prog
-joined p j =
-    record {
-      stages = take (j .stage) (p .stages);
-      moves = removed (set (p .moves) (j .into) (j .whole)) (j .«out_of»);
-    }
+joined p j = joinedBy p (j .stage) (j .into) (j .«out_of») (j .whole)
 
 -- In a tidy program, the one move that enters the last stage s, a silent one, and the one that leaves it.
 module _ (p : Prog) (s i o : ℕ) (last : length (p .stages) ≡ suc s) (hushed : isOpen (stageAt p s .kind) ≡ false)
@@ -68,7 +68,7 @@ module _ (p : Prog) (j : Joint) (a : JoinAllowed p j) where
       let s = last-is p (j .stage) (j .into) (j .«out_of») (a .last) (a .hushed) (a .enters) (a .leaves) t in
       let i = move-into p (j .stage) (j .into) (j .«out_of») (a .last) (a .hushed) (a .enters) (a .leaves) t in
       let o = move-out-of p (j .stage) (j .into) (j .«out_of») (a .last) (a .hushed) (a .enters) (a .leaves) t in
-      ap (λ m. record { stages = take (j .stage) (p .stages); moves = removed (set (p .moves) (j .into) m) (j .«out_of») }) (a .is)
+      ap (λ m. joinedBy p (j .stage) (j .into) (j .«out_of») m) (a .is)
       ∙ ap (λ s. joinedAt p s (j .into) (j .«out_of»)) (sym s)
       ∙ ap (λ m. joinedAt p (lastStage p) m (j .«out_of»)) (sym i)
       ∙ ap (joinedAt p (lastStage p) (moveInto p (lastStage p))) (sym o)
@@ -82,13 +82,15 @@ module _ (p : Prog) (j : Joint) (a : JoinAllowed p j) where
     leaves-below x l other =
         let b = ends x l .0 in
         let h = a .last in
-        ⊎-elim (λ e. absurd (other (a .leaves .alone x l e))) (λ e. omega arith) (cases-eq (moveAt p x .leaves) (j .stage))
+        ⊎-elim (λ e. absurd (other (a .leaves .alone x l e))) (λ e. omega arith)
+        (cases-eq (moveAt p x .leaves) (j .stage))
 
     enters-below : (x : ℕ) → x < length (p .moves) → (x ≡ j .into → ⊥) → moveAt p x .enters < j .stage
     enters-below x l other =
         let b = ends x l .1 in
         let h = a .last in
-        ⊎-elim (λ e. absurd (other (a .enters .alone x l e))) (λ e. omega arith) (cases-eq (moveAt p x .enters) (j .stage))
+        ⊎-elim (λ e. absurd (other (a .enters .alone x l e))) (λ e. omega arith)
+        (cases-eq (moveAt p x .enters) (j .stage))
 
     whole-fits : Fits (j .stage) (j .whole)
     whole-fits =

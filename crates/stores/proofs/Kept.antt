@@ -38,7 +38,7 @@ ends-kept-by-lay p q s d t r a e ends =
     subst P (sym (getD-append-left (p .moves) (new ∷ []) noMove k old)) (ends k old))
     (cases-eq k (length (p .moves))))
 
--- a move that two make is no longer than its pieces
+-- the pieces of a move are no longer than the move
 split-short : (p q : Prog) (S : Split p q) → ((m : ℕ) → m < length (p .moves) → moveAt p m .minutes ≤ mostMinutes)
     → (x : ℕ) → x < length (q .moves) → moveAt q x .minutes ≤ mostMinutes
 split-short p q S short x l =

@@ -14,4 +14,5 @@ pub pieces-withCut : (p q : Prog) (k a : ℕ) (r : Pieces) → CutAllowed p k a 
     → q .stages ≡ p .stages ++ (record { marks = 0; kind = Silent } ∷ [])
     → q .moves ≡ set (p .moves) k (r .first) ++ (r .second ∷ [])
     → q ≡ withCut p k a
-pieces-withCut p q k a r allowed stages moves = same-prog q (withCut p k a) stages (cc (allowed .first, allowed .second))
+pieces-withCut p q k a r allowed stages moves =
+    same-prog q (withCut p k a) stages (cc (allowed .first, allowed .second))

@@ -3,7 +3,7 @@ use mathlib.Core.Path.{_≡_, refl, sym, ap, subst, _∙_}
 use mathlib.Core.List.{List, [], _∷_, _++_}
 use Prim.Native.Nat.{ℕ, suc, _+_, _<_}
 use native.Mathlib.Omega.{arith}
-use lib.ListN.{length, take, drop, set}
+use lib.ListN.{length, take, set}
 use Rattle.std.specs.Holes.{removed}
 use Rattle.std.specs.Of.Vec.{vec-items, vec-len}
 use Rattle.std.proofs.shelf.Lists.{append-nil, drop-all}
@@ -17,7 +17,7 @@ use Rattle.stores.specs.declared.allowed.Pieces.{Pieces}
 use Rattle.stores.specs.declared.joint.Joint.{Joint}
 use Rattle.stores.specs.declared.tray.areas.Areas.{Areas}
 use Rattle.stores.specs.Allowed.{CutAllowed}
-use Rattle.stores.specs.Areas.{Layout, inUse, Holds}
+use Rattle.stores.specs.Areas.{inUse, Holds}
 use Rattle.stores.specs.Records.{stageLayout, moveLayout}
 use Rattle.stores.specs.Trays.{areasProg, areasRoom, stageRoom, moveRoom, SameLengths}
 use Rattle.stores.specs.Trays.{StagePut, MovePut, StageTaken, MoveTaken}
@@ -49,7 +49,8 @@ cut-long a b c d i j n x y s e f g =
 pub join-long : (a b c d : Areas) (i o k n s : ℕ) (x : Move) → MovePut a i x b → MoveTaken b k o c
     → StageTaken c n s d → SameLengths a d
 join-long a b c d i o k n s x e f g =
-    long-trans a b d (move-put-long a b i x e) (long-trans b c d (move-taken-long b c k o f) (stage-taken-long c d n s g))
+    long-trans a b d (move-put-long a b i x e)
+    (long-trans b c d (move-taken-long b c k o f) (stage-taken-long c d n s g))
 
 pub same-room : (a b : Areas) → SameLengths a b → areasRoom b ≡ areasRoom a
 same-room a b e =
@@ -97,37 +98,35 @@ module _ (n k : ℕ) (a b : Areas) (p : Prog) (e : Edited n k a p) where
 
   stage-appended : (s : Stage) → StagePut a n s b → Edited (n + 1) k b (prog (p .stages ++ (s ∷ [])) (p .moves))
   stage-appended s put =
-      edited-as (moves-stay _ _ (record-appended stageLayout stage-lawful n _ (e .stage-area) s _ (put .written)) (put .moves))
-      (ap (λ ss. prog (ss ++ (s ∷ [])) (p .moves)) stages-are)
+      let w = record-appended stageLayout stage-lawful n _ (e .stage-area) s _ (put .written) in
+      edited-as (moves-stay _ _ w (put .moves)) (ap (λ ss. prog (ss ++ (s ∷ [])) (p .moves)) stages-are)
 
   stage-replaced : (i : ℕ) (s : Stage) → i < n → StagePut a i s b → Edited n k b (prog (set (p .stages) i s) (p .moves))
   stage-replaced i s below put =
-      edited-as
-      (moves-stay _ _ (record-replaced stageLayout stage-lawful n _ (e .stage-area) s i _ below (put .written)) (put .moves))
-      (ap (λ ss. prog (set ss i s) (p .moves)) stages-are)
+      let w = record-replaced stageLayout stage-lawful n _ (e .stage-area) s i _ below (put .written) in
+      edited-as (moves-stay _ _ w (put .moves)) (ap (λ ss. prog (set ss i s) (p .moves)) stages-are)
 
-  stage-taken : (m i : ℕ) → n ≡ suc m → i < n → StageTaken a n i b → Edited m k b (prog (removed (p .stages) i) (p .moves))
+  stage-taken : (m i : ℕ) → n ≡ suc m → i < n → StageTaken a n i b
+      → Edited m k b (prog (removed (p .stages) i) (p .moves))
   stage-taken m i one below taken =
-      edited-as
-      (moves-stay _ _ (record-taken stageLayout stage-lawful n m _ (e .stage-area) one i _ below (taken .written)) (taken .moves))
-      (ap (λ ss. prog (removed ss i) (p .moves)) stages-are)
+      let w = record-taken stageLayout stage-lawful n m _ (e .stage-area) one i _ below (taken .written) in
+      edited-as (moves-stay _ _ w (taken .moves)) (ap (λ ss. prog (removed ss i) (p .moves)) stages-are)
 
   move-appended : (m : Move) → MovePut a k m b → Edited n (k + 1) b (prog (p .stages) (p .moves ++ (m ∷ [])))
   move-appended m put =
-      edited-as (stages-stay _ _ (record-appended moveLayout move-lawful k _ (e .move-area) m _ (put .written)) (put .stages))
-      (ap (λ ms. prog (p .stages) (ms ++ (m ∷ []))) moves-are)
+      let w = record-appended moveLayout move-lawful k _ (e .move-area) m _ (put .written) in
+      edited-as (stages-stay _ _ w (put .stages)) (ap (λ ms. prog (p .stages) (ms ++ (m ∷ []))) moves-are)
 
   move-replaced : (i : ℕ) (m : Move) → i < k → MovePut a i m b → Edited n k b (prog (p .stages) (set (p .moves) i m))
   move-replaced i m below put =
-      edited-as
-      (stages-stay _ _ (record-replaced moveLayout move-lawful k _ (e .move-area) m i _ below (put .written)) (put .stages))
-      (ap (λ ms. prog (p .stages) (set ms i m)) moves-are)
+      let w = record-replaced moveLayout move-lawful k _ (e .move-area) m i _ below (put .written) in
+      edited-as (stages-stay _ _ w (put .stages)) (ap (λ ms. prog (p .stages) (set ms i m)) moves-are)
 
-  move-taken : (m i : ℕ) → k ≡ suc m → i < k → MoveTaken a k i b → Edited n m b (prog (p .stages) (removed (p .moves) i))
+  move-taken : (m i : ℕ) → k ≡ suc m → i < k → MoveTaken a k i b
+      → Edited n m b (prog (p .stages) (removed (p .moves) i))
   move-taken m i one below taken =
-      edited-as
-      (stages-stay _ _ (record-taken moveLayout move-lawful k m _ (e .move-area) one i _ below (taken .written)) (taken .stages))
-      (ap (λ ms. prog (p .stages) (removed ms i)) moves-are)
+      let w = record-taken moveLayout move-lawful k m _ (e .move-area) one i _ below (taken .written) in
+      edited-as (stages-stay _ _ w (taken .stages)) (ap (λ ms. prog (p .stages) (removed ms i)) moves-are)
 
 removed-last : {X : Type 0} (xs : List X) (e : ℕ) → length xs ≡ suc e → removed xs e ≡ take e xs
 removed-last xs e one = ap (λ r. take e xs ++ r) (drop-all (suc e) xs (omega arith)) ∙ append-nil (take e xs)

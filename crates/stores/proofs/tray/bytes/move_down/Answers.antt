@@ -17,7 +17,8 @@ loop-i-again c =
     let bs = c .args .area .now .items in
     let h : l .i + by < length bs = omega (arith, c .args .area .now .ok .0) in
     let inside : l .i + by < l .area .len = omega (arith, l .inv .0) in
-    let byte = getD-read-under (l .area .items) (l .i + by) (l .area .len) _ 0 (c .index .ensures) inside (l .area .ok .0) in (
+    let long = l .area .ok .0 in
+    let byte = getD-read-under (l .area .items) (l .i + by) (l .area .len) _ 0 (c .index .ensures) inside long in (
       l .inv .0,
       ap (set (l .area .items) (l .i)) byte ∙ ap (λ ys. set ys (l .i) (getD ys (l .i + by) 0)) (l .inv .1)
           ∙ shifted-more bs (c .args .at) by (l .i) (l .kept .i) 0 h,
