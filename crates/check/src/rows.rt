@@ -38,7 +38,7 @@ fn has_room(
 }
 
 // The check of lines, each of which may stand where it does.
-pub fn check_rows(
+pub(crate) fn check_rows(
     stages: &[Stage],
     moves: &[Move],
     lines: &[Line],

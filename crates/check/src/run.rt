@@ -24,7 +24,7 @@ use tally::ShortestTally;
 use tally::tables::copy_moves;
 
 // Asks the program for each of its stages, once.
-pub fn copy_stages<P: Program>(program: &P, stages: &mut [Stage])
+pub(crate) fn copy_stages<P: Program>(program: &P, stages: &mut [Stage])
     requires { ⌜ length (P·Program .meaning (now program) .stages) ≤ length (now stages) ⌝ }
     ensures { λ _. ⌜ take (length (P·Program .meaning (now (program .entry)) .stages)) (now (stages .exit))
         ≡ P·Program .meaning (now (program .entry)) .stages ⌝ }
@@ -35,7 +35,7 @@ pub fn copy_stages<P: Program>(program: &P, stages: &mut [Stage])
 }
 
 // The check of lines, each of which may stand where it does.
-pub fn check_lines_of<P: Program>(
+pub(crate) fn check_lines_of<P: Program>(
     program: &P,
     lines: &[Line],
     sheet: &mut [u32],

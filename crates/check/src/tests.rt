@@ -83,7 +83,7 @@ fn follow(n: usize, moves: &[Move], set: &[u32], s: usize) -> usize
 }
 
 // A stage on a cycle of moves that take no time.
-pub fn still_stage(stages: &[Stage], moves: &[Move]) -> Option<usize>
+pub(crate) fn still_stage(stages: &[Stage], moves: &[Move]) -> Option<usize>
     requires few { ⌜ length (now stages) ≤ mostStages ⌝ }
     requires within { ⌜ Within (length (now stages)) (now moves) ⌝ }
     ensures { λ r. ⌜ Cycle-found (prog (now (stages .entry)) (now (moves .entry))) r ⌝ }

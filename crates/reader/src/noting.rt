@@ -45,14 +45,14 @@ impl Draft {
     }
 
     // The number of the last line.
-    pub fn last(&self) -> usize
+    pub(crate) fn last(&self) -> usize
         ensures { λ r. ⌜ r ≡ now (self .entry) .count - 1 ⌝ }
     {
         self.count.saturating_sub(1)
     }
 
     // There are more lines than a rule may have.
-    pub fn crowded(&self) -> bool
+    pub(crate) fn crowded(&self) -> bool
         ensures { λ r. ⌜ r ≡ ltb mostLines (now (self .entry) .count) ⌝ }
     {
         self.count > MOST_LINES
@@ -73,28 +73,28 @@ impl Draft {
     }
 
     // A line after its one part, or after its right part: that is the last line.
-    pub fn push_not(&mut self)
+    pub(crate) fn push_not(&mut self)
         ensures { λ _. ⌜ Pushed (now (self .entry)) (Not (now (self .entry) .count - 1)) (now (self .exit)) ⌝ }
     {
         let part = self.last();
         self.push(Line::Not(part));
     }
 
-    pub fn push_and(&mut self, left: usize)
+    pub(crate) fn push_and(&mut self, left: usize)
         ensures { λ _. ⌜ Pushed (now (self .entry)) (And left (now (self .entry) .count - 1)) (now (self .exit)) ⌝ }
     {
         let right = self.last();
         self.push(Line::And(left, right));
     }
 
-    pub fn push_or(&mut self, left: usize)
+    pub(crate) fn push_or(&mut self, left: usize)
         ensures { λ _. ⌜ Pushed (now (self .entry)) (Or left (now (self .entry) .count - 1)) (now (self .exit)) ⌝ }
     {
         let right = self.last();
         self.push(Line::Or(left, right));
     }
 
-    pub fn push_until(&mut self, quantifier: Quantifier, left: usize, bound: Bound)
+    pub(crate) fn push_until(&mut self, quantifier: Quantifier, left: usize, bound: Bound)
         ensures { λ _. ⌜ PushedUntil (now (self .entry)) quantifier left bound (now (self .exit)) ⌝ }
     {
         let right = self.last();

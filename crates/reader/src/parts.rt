@@ -83,7 +83,7 @@ fn read_term<'a>(text: &'a [u8], draft: &mut Draft) -> Option<&'a [u8]>
 }
 
 // Terms joined by `|`, up to what is neither `|` nor `&`.
-pub fn read_rule<'a>(text: &'a [u8], draft: &mut Draft) -> Option<&'a [u8]>
+pub(crate) fn read_rule<'a>(text: &'a [u8], draft: &mut Draft) -> Option<&'a [u8]>
     ensures { λ r. ⌜ ReadsRule (now (text .entry)) (now (draft .entry)) (now (draft .exit)) r ⌝ }
 {
     let mut rest = read_term(text, draft)?;

@@ -19,7 +19,7 @@ pub enum Sort {
 }
 
 // Sets the first n words to 0.
-pub fn erase(n: usize, words: &mut [u32])
+pub(crate) fn erase(n: usize, words: &mut [u32])
     requires { ⌜ n ≤ length (now words) ⌝ }
     ensures erased { λ _. ⌜ ((s : ℕ) → s < n → getD (now (words .exit)) s 0 ≡ 0) ⌝ }
     ensures above { λ _. ⌜ Rest-kept n (now (words .entry)) (now (words .exit)) ⌝ }
@@ -55,7 +55,7 @@ fn mark_one(sort: Sort, m: Move, set: &[u32], has: &mut [u32])
 }
 
 // Marks each stage with a move into the set.
-pub fn mark_into(sort: Sort, n: usize, moves: &[Move], set: &[u32], has: &mut [u32])
+pub(crate) fn mark_into(sort: Sort, n: usize, moves: &[Move], set: &[u32], has: &mut [u32])
     requires within { ⌜ Within n (now moves) ⌝ }
     requires set { ⌜ n ≤ length (now set) ⌝ }
     requires has { ⌜ n ≤ length (now has) ⌝ }

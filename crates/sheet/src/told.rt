@@ -77,7 +77,7 @@ fn tell_row<T: Told>(n: usize, minutes: u32, entries: &[T], out: &mut [u32])
 }
 
 // Writes where the walks from pass to goals tell what is asked. The table is none again after it.
-pub fn tell<T: Told>(
+pub(crate) fn tell<T: Told>(
     n: usize,
     moves: &[Move],
     pass: &[u32],

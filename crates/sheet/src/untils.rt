@@ -35,7 +35,7 @@ use tally::Shortest;
 use tally::ShortestTally;
 
 // Where E[f U<=c g] holds.
-pub fn some_most(
+pub(crate) fn some_most(
     stages: &[Stage],
     moves: &[Move],
     f: &[u32],
@@ -67,7 +67,7 @@ pub fn some_most(
 }
 
 // Where E[f U>=c g] holds.
-pub fn some_least(
+pub(crate) fn some_least(
     stages: &[Stage],
     moves: &[Move],
     f: &[u32],
@@ -110,7 +110,7 @@ pub fn some_least(
 }
 
 // Where A[f U<=c g] holds.
-pub fn each_most(
+pub(crate) fn each_most(
     stages: &[Stage],
     moves: &[Move],
     f: &[u32],
@@ -157,7 +157,7 @@ pub fn each_most(
 }
 
 // Where A[f U>=c g] holds.
-pub fn each_least(
+pub(crate) fn each_least(
     stages: &[Stage],
     moves: &[Move],
     f: &[u32],

@@ -49,7 +49,7 @@ fn combined(op: Op, x: u32, y: u32) -> u32
 }
 
 // Changes the first n words of a row by those of another.
-pub fn combine(op: Op, n: usize, a: &[u32], out: &mut [u32])
+pub(crate) fn combine(op: Op, n: usize, a: &[u32], out: &mut [u32])
     requires a { ⌜ n ≤ length (now a) ⌝ }
     requires out { ⌜ n ≤ length (now out) ⌝ }
     ensures is { λ _. ⌜ Says n (now (out .exit)) (λ s. opOf op (among (now (out .entry)) s)
@@ -71,7 +71,7 @@ fn opened(stage: Stage) -> u32
 }
 
 // The open stages.
-pub fn open_row(stages: &[Stage], out: &mut [u32])
+pub(crate) fn open_row(stages: &[Stage], out: &mut [u32])
     requires { ⌜ length (now stages) ≤ length (now out) ⌝ }
     ensures is { λ _. ⌜ Says (length (now (stages .entry))) (now (out .exit))
         (open? (graphOf (now (stages .entry)) [])) ⌝ }

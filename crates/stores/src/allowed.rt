@@ -8,7 +8,7 @@ use program::Program;
 use program::Stage;
 
 // The stage of that number, where `mark` may replace its marks.
-pub fn open_stage<P: Program>(program: &P, stage: usize) -> Result<Stage, EditFault>
+pub(crate) fn open_stage<P: Program>(program: &P, stage: usize) -> Result<Stage, EditFault>
     ensures { λ r. ⌜ MarkTested (meaning (now (program .entry))) stage r ⌝ }
 {
     if stage >= program.stage_count() {
@@ -22,7 +22,7 @@ pub fn open_stage<P: Program>(program: &P, stage: usize) -> Result<Stage, EditFa
 }
 
 // The move with those ends and minutes, where `lay` may append it.
-pub fn allowed_move<P: Program>(
+pub(crate) fn allowed_move<P: Program>(
     program: &P,
     leaves: usize,
     minutes: u32,
@@ -64,7 +64,11 @@ pub struct Pieces {
 }
 
 // The pieces of move k, where `cut` may cut it `place` minutes after it begins, at a new last stage.
-pub fn allowed_pieces<P: Program>(program: &P, k: usize, place: u32) -> Result<Pieces, EditFault>
+pub(crate) fn allowed_pieces<P: Program>(
+    program: &P,
+    k: usize,
+    place: u32,
+) -> Result<Pieces, EditFault>
     ensures { λ r. ⌜ CutTested (meaning (now (program .entry))) k place r ⌝ }
 {
     if k >= program.move_count() {

@@ -65,7 +65,7 @@ pub struct Joint {
 }
 
 // The joint that `join` may take out. In a tidy program there is one wherever the last stage is silent.
-pub fn find_joint<P: Program>(program: &P) -> Result<Joint, EditFault>
+pub(crate) fn find_joint<P: Program>(program: &P) -> Result<Joint, EditFault>
     ensures { λ r. ⌜ JoinTested (meaning (now (program .entry))) r ⌝ }
 {
     let stages = program.stage_count();

@@ -24,7 +24,7 @@ pub struct MoveTable {
 }
 
 // Takes record k out; later records stand one place lower.
-pub fn take_out(table: &mut MoveTable, k: usize)
+pub(crate) fn take_out(table: &mut MoveTable, k: usize)
     requires some { ⌜ k < now table .count ⌝ }
     requires room { ⌜ now table .count ≤ cardMoves ⌝ }
     requires long { ⌜ length (now table .records) ≡ cardMoves ⌝ }

@@ -17,7 +17,7 @@ fn zero(area: &mut Vec<u8>, at: usize, n: usize)
 }
 
 // Sets every byte to 0.
-pub fn clear(area: &mut Vec<u8>)
+pub(crate) fn clear(area: &mut Vec<u8>)
     ensures items { λ _. ⌜ vec-items (now (area .exit)) ≡ replicate (vec-len (now (area .entry))) 0 ⌝ }
     ensures len { λ _. ⌜ vec-len (now (area .exit)) ≡ vec-len (now (area .entry)) ⌝ }
 {
@@ -26,7 +26,7 @@ pub fn clear(area: &mut Vec<u8>)
 }
 
 // Writes new bytes over those that lie from a place on.
-pub fn put(area: &mut Vec<u8>, at: usize, new: &[u8])
+pub(crate) fn put(area: &mut Vec<u8>, at: usize, new: &[u8])
     requires { ⌜ at + length (now new) ≤ vec-len (now area) ⌝ }
     ensures items { λ _. ⌜ vec-items (now (area .exit)) ≡ put (vec-items (now (area .entry))) at (now (new .entry)) ⌝ }
     ensures len { λ _. ⌜ vec-len (now (area .exit)) ≡ vec-len (now (area .entry)) ⌝ }
@@ -37,14 +37,14 @@ pub fn put(area: &mut Vec<u8>, at: usize, new: &[u8])
 }
 
 // The two bytes of a number, the lower first.
-pub fn low_high(number: u16) -> [u8; 2]
+pub(crate) fn low_high(number: u16) -> [u8; 2]
     ensures { λ r. ⌜ r ≡ lowHigh number ⌝ }
 {
     [(number % 256) as u8, (number / 256) as u8]
 }
 
 // The number in the two bytes at a place.
-pub fn number_at(area: &Vec<u8>, at: usize) -> u16
+pub(crate) fn number_at(area: &Vec<u8>, at: usize) -> u16
     requires { ⌜ at + 1 < vec-len (now area) ⌝ }
     ensures { λ r. ⌜ r ≡ numberAt (vec-items (now (area .entry))) at ⌝ }
 {
@@ -64,7 +64,7 @@ fn move_down(area: &mut Vec<u8>, at: usize, by: usize, end: usize)
 
 // Takes out record k of `count`, where each is `width` bytes wide: later ones stand one place lower, and zeros take the
 // last place.
-pub fn take_out(area: &mut Vec<u8>, width: usize, count: usize, k: usize)
+pub(crate) fn take_out(area: &mut Vec<u8>, width: usize, count: usize, k: usize)
     requires { ⌜ k < count ⌝ ∗ ⌜ width * count ≤ vec-len (now area) ⌝ }
     ensures items { λ _. ⌜ vec-items (now (area .exit))
         ≡ takenOut width count k (vec-items (now (area .entry))) ⌝ }

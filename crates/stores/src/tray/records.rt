@@ -64,7 +64,7 @@ fn move_record(laid: Move) -> [u8; MOVE_BYTES]
 }
 
 // Writes the stage of number n, and leaves every other byte.
-pub fn put_stage(areas: &mut Areas, n: usize, stage: Stage)
+pub(crate) fn put_stage(areas: &mut Areas, n: usize, stage: Stage)
     requires { ⌜ 4 * n + 4 ≤ vec-len (now areas .stages) ⌝ }
     ensures { λ _. ⌜ StagePut (now (areas .entry)) n stage (now (areas .exit)) ⌝ }
 {
@@ -72,7 +72,7 @@ pub fn put_stage(areas: &mut Areas, n: usize, stage: Stage)
 }
 
 // Writes the move of number n, and leaves every other byte.
-pub fn put_move(areas: &mut Areas, n: usize, laid: Move)
+pub(crate) fn put_move(areas: &mut Areas, n: usize, laid: Move)
     requires { ⌜ 8 * n + 8 ≤ vec-len (now areas .moves) ⌝ }
     ensures { λ _. ⌜ MovePut (now (areas .entry)) n laid (now (areas .exit)) ⌝ }
 {
@@ -80,7 +80,7 @@ pub fn put_move(areas: &mut Areas, n: usize, laid: Move)
 }
 
 // Takes out stage k of `count`.
-pub fn take_stage(areas: &mut Areas, count: usize, k: usize)
+pub(crate) fn take_stage(areas: &mut Areas, count: usize, k: usize)
     requires { ⌜ k < count ⌝ ∗ ⌜ 4 * count ≤ vec-len (now areas .stages) ⌝ }
     ensures { λ _. ⌜ StageTaken (now (areas .entry)) count k (now (areas .exit)) ⌝ }
 {
@@ -88,7 +88,7 @@ pub fn take_stage(areas: &mut Areas, count: usize, k: usize)
 }
 
 // Takes out move k of `count`.
-pub fn take_move(areas: &mut Areas, count: usize, k: usize)
+pub(crate) fn take_move(areas: &mut Areas, count: usize, k: usize)
     requires { ⌜ k < count ⌝ ∗ ⌜ 8 * count ≤ vec-len (now areas .moves) ⌝ }
     ensures { λ _. ⌜ MoveTaken (now (areas .entry)) count k (now (areas .exit)) ⌝ }
 {
@@ -96,7 +96,7 @@ pub fn take_move(areas: &mut Areas, count: usize, k: usize)
 }
 
 // The stage of number n.
-pub fn read_stage(area: &Vec<u8>, n: usize) -> Stage
+pub(crate) fn read_stage(area: &Vec<u8>, n: usize) -> Stage
     requires { ⌜ 4 * n + 4 ≤ vec-len (now area) ⌝ }
     ensures { λ r. ⌜ r ≡ readStage (drop (4 * n) (vec-items (now (area .entry)))) ⌝ }
 {
@@ -108,7 +108,7 @@ pub fn read_stage(area: &Vec<u8>, n: usize) -> Stage
 }
 
 // The move of number n.
-pub fn read_move(area: &Vec<u8>, n: usize) -> Move
+pub(crate) fn read_move(area: &Vec<u8>, n: usize) -> Move
     requires { ⌜ 8 * n + 8 ≤ vec-len (now area) ⌝ }
     ensures { λ r. ⌜ r ≡ readMove (drop (8 * n) (vec-items (now (area .entry)))) ⌝ }
 {
