@@ -1,5 +1,4 @@
 // Runs the pages of data/, by the names that the arguments give, and compares each answer with the one that is due.
-use std::alloc::AllocError;
 use std::env;
 use std::error::AnyError;
 use std::fs;

@@ -10,7 +10,7 @@ use Rattle.std.proofs.shelf.Numerals.{Numerals, numerals-by-fold, tells-by-inde
 use Rattle.std.proofs.shelf.Decimals.{decimal-some, first-decimal, decimal-digit, digits-decimal, value-decimal}
 use Rattle.std.proofs.shelf.Decimals.{decimal-value, length-decimal-le}
 use Rattle.std.proofs.shelf.Tests.{cases-lt}
-use Rattle.std.proofs.shelf.Lists.{take-more, length-take-le, getD-take, getD-push, getD-append-left, length-push}
+use Rattle.std.proofs.shelf.Lists.{take-more, length-take-le, getD-push, getD-append-left, length-push}
 use Rattle.std.proofs.shelf.Lists.{take-all}
 use mathlib.Core.Logic.{⊎-elim}
 use Rattle.layout.specs.Numbers.{Small, Shaped, worthAfter, Writes}

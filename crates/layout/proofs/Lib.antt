@@ -3,3 +3,4 @@ pub mod Rising
 pub mod Cuts
 pub mod Readings
 pub mod Loads
+pub mod Once

@@ -1,17 +1,16 @@
 -- A line of a page has at most one reading, and each step of its readers keeps it.
 use mathlib.Core.Path.{_≡_, refl, sym, ap, subst, _∙_}
-use mathlib.Core.List.{List, [], _∷_, _++_}
-use Prim.Native.Nat.{ℕ, _+_, _-_, _≤_, _<_}
+use mathlib.Core.List.{List, _∷_, _++_}
+use Prim.Native.Nat.{ℕ, _+_, _-_, _<_}
 use native.Mathlib.Omega.{arith}
-use lib.ListN.{length, getD}
 use lib.Chars.{codes}
 use Rattle.std.specs.Written.{decimal}
 use Rattle.std.proofs.shelf.Decimals.{same-from-decimal}
 use Rattle.layout.specs.Numbers.{Small}
-use Rattle.layout.specs.Letters.{letters, Sixteen}
+use Rattle.layout.specs.Letters.{letters}
 use Rattle.layout.specs.Splits.{Lacks}
 use Rattle.layout.specs.declared.loading.Part.{Part}
-use Rattle.layout.specs.Pages.{Follows, NoLine}
+use Rattle.layout.specs.Pages.{NoLine}
 use Rattle.layout.specs.Lines.{Line, stage, move, rule, write, Fits, writeMove, FitsMove}
 use Rattle.layout.proofs.Decimals.{decimal-writes}
 use Rattle.layout.proofs.Cuts.{no-cut, one-cut, lacks-cons, lacks-append, lacks-behind, lacks-from-test}

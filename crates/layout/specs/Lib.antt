@@ -5,3 +5,4 @@ pub mod Splits
 pub mod Lines
 pub mod Faults
 pub mod Pages
+pub mod Outcomes

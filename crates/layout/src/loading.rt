@@ -1,6 +1,7 @@
 // A page is loaded into a store line by line: parsed, then edited.
 ghost use mathlib.Core.Path.{_≡_};
 ghost use Rattle.layout.specs.Lines.{lineOf};
+ghost use Rattle.layout.specs.Outcomes.{One-outcome};
 ghost use Rattle.layout.specs.Pages.{partOf, NextLine, editStep, Edited, Loads};
 use crate::faults::PageFault;
 use crate::line::PageLine;
@@ -96,4 +97,11 @@ pub fn load<'a, S: Store>(store: &mut S, page: &'a [u8]) -> Result<&'a [u8], Pag
         }
     }
     Ok(rules)
+}
+
+// A page is taken whole in one way, or refused for one line, and never both.
+pub fn one_outcome() -> u8
+    ensures { λ _. ⌜ One-outcome ⌝ }
+{
+    0
 }

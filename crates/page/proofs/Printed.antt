@@ -5,11 +5,10 @@ use mathlib.Core.List.{List, [], _∷_, _++_}
 use Prim.Native.Nat.{ℕ, _+_, _/_, _%_, _^_, _≤_, _<_}
 use native.Mathlib.Omega.{arith}
 use lib.ListN.{length, getD, take}
-use lib.Chars.{codes}
 use Rattle.std.specs.Written.{decimal}
 use Rattle.std.proofs.shelf.Decimals.{decimal-digit, decimal-step}
 use Rattle.std.proofs.shelf.Lists.{append-assoc, append-nil, take-more, take-all, length-take-le}
-use Rattle.page.specs.Answers.{field, listed, separator, holdsIn, stagesFrom, stagesOf, holdsLine}
+use Rattle.page.specs.Answers.{listed, separator, holdsIn, stagesFrom, stagesOf}
 
 -- A number is written by writing its tenth, unless that is 0, and then its last digit.
 pub last-digit : (a z : List ℕ) (n : ℕ) → n < 10 → z ≡ a ++ (48 + n % 10) ∷ [] → z ≡ a ++ decimal n

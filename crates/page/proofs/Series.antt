@@ -2,11 +2,11 @@
 use mathlib.Core.Path.{_≡_, refl, sym, ap, subst, _∙_}
 use mathlib.Core.Bool.{Bool, true, false}
 use mathlib.Core.List.{List, [], _∷_, _++_}
-use Prim.Native.Nat.{ℕ, _+_, _≤_, _<_}
+use Prim.Native.Nat.{ℕ, _+_, _≤_}
 use native.Mathlib.Omega.{arith}
 use lib.ListN.{length}
 use borrow.Author.Tests.{both-ways}
-use Rattle.std.proofs.shelf.Lists.{append-assoc, append-nil, length-append, length-push, nil-from-length}
+use Rattle.std.proofs.shelf.Lists.{append-assoc, append-nil, length-append, length-push}
 use Rattle.std.specs.declared.result.Result.the-variants.{Ok, Err}
 use Rattle.std.specs.Results.{isOk}
 use Rattle.program.specs.Meaning.{Prog}
@@ -15,7 +15,7 @@ use Rattle.layout.specs.declared.loading.Part.{Part}
 use Rattle.layout.specs.declared.loading.Part.the-variants.{Stages, Moves, Rules}
 use Rattle.layout.specs.Splits.{Lacks}
 use Rattle.layout.specs.Lines.{Line, stage, move, rule, write}
-use Rattle.layout.specs.Pages.{bytesOf, rulesOf, textsOf, Follows, InForm, NoLine, Whole}
+use Rattle.layout.specs.Pages.{rulesOf, textsOf, Follows, InForm, NoLine, Whole}
 use Rattle.page.specs.Answers.{Answer, ruleBytes}
 use Rattle.page.specs.Console.{Answers, AllAnswered, bytesFrom, checkedAmong, Texts, Adds, AddsAll}
 use Rattle.page.specs.Whole.{PageAnswered}
