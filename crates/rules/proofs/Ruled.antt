@@ -48,7 +48,7 @@ rules-next (l ∷ ls) rs zero m h e w =
     rules-kept ls (rs ++ (ruleFrom rs l ∷ [])) m (omega arith) ∙ getD-push rs (ruleFrom rs l) one m z
     ∙ rule-same m l w rs (rulesOf (rs ++ (ruleFrom rs l ∷ [])) ls)
     (λ j b. sym (rules-kept ls (rs ++ (ruleFrom rs l ∷ [])) j (omega arith) ∙ getD-append-left rs (ruleFrom rs l ∷ [])
-        one j (omega arith)))
+    one j (omega arith)))
 rules-next (l ∷ ls) rs (suc k) m h e w =
     let n = length-push rs (ruleFrom rs l) in
     rules-next ls (rs ++ (ruleFrom rs l ∷ [])) k m (omega arith) (omega arith) w

@@ -99,12 +99,12 @@ module _ {A : Type 0} (K : Algebra A) where
 
 -- The rounds compute the choice over all walks.
 module _ {A : Type 0} (K : Algebra A) (laws : Laws K) where
-  chosen-join : (xs ys : List (List Move)) → chosen K (xs ++ ys) ≡ K .choice (chosen K xs) (chosen K ys)
+  pub chosen-join : (xs ys : List (List Move)) → chosen K (xs ++ ys) ≡ K .choice (chosen K xs) (chosen K ys)
   chosen-join [] ys = sym (laws .neutral (chosen K ys))
   chosen-join (x ∷ xs) ys = ap (K .choice (said K x)) (chosen-join xs ys)
       ∙ sym (laws .associative (said K x) (chosen K xs) (chosen K ys))
 
-  chosen-before : (m : Move) (ws : List (List Move)) → chosen K (map (λ w. m ∷ w) ws) ≡ K .before (m .minutes)
+  pub chosen-before : (m : Move) (ws : List (List Move)) → chosen K (map (λ w. m ∷ w) ws) ≡ K .before (m .minutes)
       (chosen K ws)
   chosen-before m [] = sym (laws .before-none (m .minutes))
   chosen-before m (w ∷ ws) =
@@ -126,7 +126,7 @@ module _ {A : Type 0} (K : Algebra A) (laws : Laws K) where
           ∙ ap (K .choice (K .before (m .minutes) (chosen K (further (m .enters))))) ih
       go false ih = ih
 
-  chosen-goal : (b : Bool) → chosen K (cond b ([] ∷ []) []) ≡ cond b (K .start) (K .none)
+  pub chosen-goal : (b : Bool) → chosen K (cond b ([] ∷ []) []) ≡ cond b (K .start) (K .none)
   chosen-goal true = laws .commutative (K .start) (K .none) ∙ laws .neutral (K .start)
   chosen-goal false = refl
 

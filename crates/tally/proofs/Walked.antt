@@ -11,12 +11,12 @@ use lib.Dec.{T, eqb, eqb→eq, eqb-refl}
 use Rattle.program.specs.declared.Move.{Move}
 use Rattle.tally.specs.Walks.{Has, Leads, onward, walks, All-walks}
 
-join-e : {A : Type 0} (xs ys : List A) (w : A) → Has (xs ++ ys) w → Has xs w ⊎ Has ys w
+pub join-e : {A : Type 0} (xs ys : List A) (w : A) → Has (xs ++ ys) w → Has xs w ⊎ Has ys w
 join-e [] ys w h = inr h
 join-e (x ∷ xs) ys w (inl e) = inl (inl e)
 join-e (x ∷ xs) ys w (inr h) = ⊎-elim (λ a. inl (inr a)) (λ b. inr b) (join-e xs ys w h)
 
-join-l : {A : Type 0} (xs ys : List A) (w : A) → Has xs w → Has (xs ++ ys) w
+pub join-l : {A : Type 0} (xs ys : List A) (w : A) → Has xs w → Has (xs ++ ys) w
 join-l [] ys w h = absurd h
 join-l (x ∷ xs) ys w (inl e) = inl e
 join-l (x ∷ xs) ys w (inr h) = inr (join-l xs ys w h)
@@ -25,7 +25,7 @@ join-r : {A : Type 0} (xs ys : List A) (w : A) → Has ys w → Has (xs ++ ys) w
 join-r [] ys w h = h
 join-r (x ∷ xs) ys w h = inr (join-r xs ys w h)
 
-map-e : (m : Move) (ws : List (List Move)) (w : List Move) → Has (map (λ v. m ∷ v) ws) w → (v : List Move)
+pub map-e : (m : Move) (ws : List (List Move)) (w : List Move) → Has (map (λ v. m ∷ v) ws) w → (v : List Move)
     × (m ∷ v ≡ w) × Has ws v
 map-e m [] w h = absurd h
 map-e m (x ∷ ws) w (inl e) = (x, e, inl refl)

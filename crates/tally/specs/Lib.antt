@@ -1,4 +1,5 @@
 pub mod Algebras
 pub mod Walks
 pub mod Rounds
+pub mod Sweeps
 pub mod Tables

@@ -6,6 +6,7 @@ ghost use Prim.Native.Nat.{ℕ, _+_, _*_, _≤_, _<_};
 ghost use lib.ListN.{length};
 ghost use Rattle.tally.specs.Walks.{among, tallied, All-walks};
 ghost use Rattle.tally.specs.Rounds.{begins, round, rounds, Within, entry, Kept-below, Kept-from, Written, Holding, poured, allPoured};
+ghost use Rattle.tally.specs.Sweeps.{Chosen-of-all};
 ghost use Rattle.tally.specs.Tables.{Filled};
 use crate::Tally;
 use program::Move;
@@ -160,6 +161,14 @@ pub fn tallies<T: Tally>(
 // The list of walks that the tallies sum up is that of all walks.
 pub fn all_walks() -> u8
     ensures { λ _. ⌜ All-walks ⌝ }
+{
+    0
+}
+
+// A table that is filled in place, by one move after the other in any order, says the choice over some walks at each
+// time, and over all walks once no move adds anything to it.
+pub fn chosen_of_all<T: Tally>() -> u8
+    ensures { λ _. ⌜ Chosen-of-all (T·Tally .algebra) ⌝ }
 {
     0
 }
