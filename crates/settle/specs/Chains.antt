@@ -4,7 +4,8 @@ use mathlib.Core.List.{List}
 use Prim.Native.Nat.{ℕ, _-_, _≤_, _<_}
 use lib.ListN.{length, getD}
 use Rattle.program.specs.declared.Move.{Move}
-use Rattle.program.specs.Meaning.{noMove}
+use Rattle.program.specs.Meaning.{noMove, mostStages, mostMoves}
+use Rattle.tally.specs.Rounds.{Within}
 use Rattle.settle.specs.declared.links.End.{End}
 use Rattle.settle.specs.declared.links.End.the-variants.{Leaves, Enters}
 use Rattle.settle.specs.declared.links.Links.{Links}
@@ -29,5 +30,9 @@ pub record Chained (end : End) (n : ℕ) (moves : List Move) (k : ℕ) (first ne
   pub firsts : (stage : ℕ) → stage < n → Right end moves stage k (getD first stage 0)
   pub nexts : (j : ℕ) → j < k → Right end moves (endAt end moves j) j (getD next j 0)
 
-abbrev pub Linked : End → ℕ → List Move → Links → Type 0
-Linked end n moves links = Chained end n moves (length moves) (links .first) (links .next)
+-- All the moves of a program are in the chains, and the program is within the limits.
+pub record Linked (end : End) (n : ℕ) (moves : List Move) (links : Links) : Type 0 where
+  pub few-stages : n ≤ mostStages
+  pub few-moves : length moves ≤ mostMoves
+  pub within : Within n moves
+  pub chained : Chained end n moves (length moves) (links .first) (links .next)

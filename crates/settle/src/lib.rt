@@ -2,3 +2,5 @@
 // value changed, and the endless part of a set by watched moves, both over moves chained by their ends.
 // Rests on `program` and `tally`, and on the endless part as `tctl` defines it.
 pub mod links;
+pub mod queue;
+pub mod table;

@@ -19,7 +19,7 @@ pub enum End {
 
 // A link is one more than the number of a move, or 0 where a chain ends. `first` has for each stage the link to its last
 // move, `next` for each move the link to the last move before it with the same end.
-#[derive(Clone, Copy)]
+#[derive(Drop)]
 pub struct Links {
     pub first: [u16; MOST_STAGES],
     pub next: [u16; MOST_MOVES],

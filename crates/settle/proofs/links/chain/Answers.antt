@@ -1,10 +1,10 @@
 use mathlib.Core.Path.{_≡_, sym, _∙_, subst}
 use Prim.Native.Nat.{ℕ, _+_, _<_}
 use native.Mathlib.Omega.{arith}
-use lib.ListN.{getD, replicate}
+use lib.ListN.{length, getD, replicate}
 use Rattle.std.proofs.shelf.Lists.{getD-replicate, length-replicate, length-set}
 use Rattle.program.specs.Meaning.{mostStages, mostMoves}
-use Rattle.settle.specs.Chains.{endAt}
+use Rattle.settle.specs.Chains.{Chained}
 use Rattle.settle.proofs.Chains.{chained-none, chained-more, end-within}
 use Rattle.settle.proofs.links.chain.Needs as need
 
@@ -33,3 +33,14 @@ loop-k-again c =
       length-set first stage (k + 1) ∙ c .loop-k .inv .1,
       length-set next k (getD first stage 0) ∙ c .loop-k .inv .2,
     )
+
+pub returns : need.returns
+returns c =
+    let all : c .loop-k .k ≡ length (c .args .moves .now) = omega arith in
+    record {
+      few-stages = c .pre .stages;
+      few-moves = c .pre .moves;
+      within = c .pre .within;
+      chained = subst (λ k. Chained (c .args .end) (c .args .n) (c .args .moves .now) k (c .loop-k .first) (c .loop-k .next))
+          all (c .loop-k .inv .0);
+    }

@@ -1,0 +1,87 @@
+// For each stage the choice over all walks to a goal, by a queue of the stages whose value changed: as such a stage is taken
+// out, what is said of it goes back over the moves that enter it.
+ghost use mathlib.Core.Path.{_≡_};
+ghost use mathlib.Core.Logic.{_⊎_};
+ghost use mathlib.Core.Bool.{true};
+ghost use Prim.Native.Nat.{ℕ, _*_, _≤_, _<_};
+ghost use lib.ListN.{length};
+ghost use Rattle.program.specs.Meaning.{mostStages};
+ghost use Rattle.tally.specs.Walks.{among, tallied};
+ghost use Rattle.tally.specs.Rounds.{begins, entry, Holding, Kept-from};
+ghost use Rattle.tally.specs.Sweeps.{In-place};
+ghost use Rattle.tally.specs.Tables.{Filled};
+ghost use Rattle.settle.specs.declared.links.End.the-variants.{Enters};
+ghost use Rattle.settle.specs.Chains.{endAt, Linked};
+ghost use Rattle.settle.specs.Queues.{Waits, Orderly};
+ghost use Rattle.settle.specs.Tended.{Tended, Due, Lined, Still-partly, Settles};
+use crate::links::Links;
+use crate::queue::Queue;
+use program::MOST_STAGES;
+use program::Move;
+use tally::Tally;
+use tally::rows::clear;
+use tally::rows::tallies;
+
+// Adds to what the table says of the stage that a move leaves what it says of the stage that the move enters, with the
+// move's minutes before it. Where that changes something, the stage is put into the queue: false says that it could not be.
+fn pour_back<T: Tally>(m: Move, pass: &[u32], table: &mut [T], queue: &mut Queue) -> bool
+    requires stage { ⌜ m .leaves < mostStages ⌝ }
+    requires pass { ⌜ m .leaves < length (now pass) ⌝ }
+    requires room { ⌜ m .leaves < length (now table) ⌝ ∗ ⌜ m .enters < length (now table) ⌝ }
+    requires orderly { ⌜ Orderly (now queue) ⌝ }
+    ensures place { λ _. ⌜ In-place (T·Tally .algebra) (among (now (pass .entry))) m
+        (entry (T·Tally .algebra) (now (table .entry))) (entry (T·Tally .algebra) (now (table .exit))) ⌝ }
+    ensures orderly { λ _. ⌜ Orderly (now (queue .exit)) ⌝ }
+    ensures still { λ _. ⌜ ((stage : ℕ) → Waits (now (queue .entry)) stage → Waits (now (queue .exit)) stage) ⌝ }
+    ensures only { λ _. ⌜ ((stage : ℕ) → Waits (now (queue .exit)) stage → Waits (now (queue .entry)) stage ⊎ (stage ≡ m .leaves)) ⌝ }
+    ensures waits { λ r. ⌜ (r ≡ true → (entry (T·Tally .algebra) (now (table .exit)) (m .leaves)
+        ≡ entry (T·Tally .algebra) (now (table .entry)) (m .leaves)) ⊎ Waits (now (queue .exit)) (m .leaves)) ⌝ }
+{
+    let leaves = m.leaves as usize;
+    if pass[leaves] == 0 {
+        return true;
+    }
+    let had = table[leaves];
+    let more = table[m.enters as usize].before(m.minutes);
+    let both = had.choice(more);
+    if had.same(both) {
+        return true;
+    }
+    table[leaves] = both;
+    queue.put(leaves)
+}
+
+// Takes what the table says of a stage back over the moves that enter it. Answers false where the queue is full.
+fn pull<T: Tally>(
+    n: usize,
+    moves: &[Move],
+    enters: &Links,
+    pass: &[u32],
+    stage: usize,
+    table: &mut [T],
+    queue: &mut Queue,
+) -> bool
+    requires linked { ⌜ Linked Enters n (now moves) (now enters) ⌝ }
+    requires stage { ⌜ stage < n ⌝ }
+    requires pass { ⌜ n ≤ length (now pass) ⌝ }
+    requires room { ⌜ n ≤ length (now table) ⌝ }
+    requires lined { ⌜ Lined n (now queue) ⌝ }
+    requires tended { ⌜ Tended (T·Tally .algebra) (now moves) (among (now pass)) (entry (T·Tally .algebra) (now table))
+        (λ k. Due (now moves) (now queue) k ⊎ (endAt Enters (now moves) k ≡ stage)) ⌝ }
+    ensures partly { λ _. ⌜ Still-partly (T·Tally .algebra) n (now (moves .entry)) (among (now (pass .entry)))
+        (entry (T·Tally .algebra) (now (table .entry))) (entry (T·Tally .algebra) (now (table .exit))) ⌝ }
+    ensures above { λ _. ⌜ Kept-from (T·Tally .algebra) n (now (table .entry)) (now (table .exit)) ⌝ }
+    ensures lined { λ _. ⌜ Lined n (now (queue .exit)) ⌝ }
+    ensures tended { λ r. ⌜ (r ≡ true → Tended (T·Tally .algebra) (now (moves .entry)) (among (now (pass .entry)))
+        (entry (T·Tally .algebra) (now (table .exit))) (Due (now (moves .entry)) (now (queue .exit)))) ⌝ }
+{
+    let mut link = enters.first[stage];
+    while link > 0 {
+        let k = link as usize - 1;
+        if !pour_back(moves[k], pass, table, queue) {
+            return false;
+        }
+        link = enters.next[k];
+    }
+    true
+}
