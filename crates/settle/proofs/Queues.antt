@@ -1,7 +1,7 @@
 -- What a queue keeps when a stage is put in or taken out.
 use mathlib.Core.Path.{_≡_, refl, sym, _∙_, ap, subst}
 use mathlib.Core.Logic.{_⊎_, inl, inr, ⊎-elim}
-use mathlib.Core.Bool.{true, false}
+use mathlib.Core.Bool.{Bool, true, false}
 use Prim.Native.Nat.{ℕ, zero, suc, _+_, _-_, _%_, _≤_, _<_}
 use native.Mathlib.Omega.{arith}
 use lib.ListN.{length, getD, set, replicate}
@@ -10,21 +10,31 @@ use Rattle.std.proofs.shelf.Lists.{getD-set-same, getD-set-other}
 use Rattle.std.proofs.shelf.Tests.{cases-eq}
 use Rattle.program.specs.Meaning.{mostStages}
 use Rattle.settle.specs.declared.queue.Queue.{Queue}
-use Rattle.settle.specs.Queues.{behind, Waits, Orderly, Puts, Taken}
+use Rattle.settle.specs.Queues.{behind, Waits, Orderly, Lined, All-wait, Puts, Taken}
 
 nothing-told : (n stage : ℕ) → T (getD (replicate n false) stage false) → ⊥
 nothing-told zero stage t = t
 nothing-told (suc n) zero t = t
 nothing-told (suc n) (suc stage) t = nothing-told n stage t
 
-pub empty-orderly : Orderly
+pub empty-lined : (n : ℕ) → Lined n
     (record { ring = replicate mostStages 0; waiting = replicate mostStages false; head = 0; count = 0 })
-empty-orderly = record {
-  begin = omega arith;
-  few = omega arith;
+empty-lined n = record {
+  orderly = record {
+    begin = omega arith;
+    few = omega arith;
+    stages = λ stage w. absurd (let h = w .inside in omega arith);
+    told = λ stage t. absurd (nothing-told mostStages stage t);
+  };
   stages = λ stage w. absurd (let h = w .inside in omega arith);
-  told = λ stage t. absurd (nothing-told mostStages stage t);
 }
+
+-- Those below one more stage wait if those below it do, and it does if it is in the set.
+pub all-wait-more : (n : ℕ) (set : ℕ → Bool) (was after : Queue) → ((other : ℕ) → Waits was other → Waits after other)
+    → (T (set n) → Waits after n) → All-wait n set was → All-wait (n + 1) set after
+all-wait-more n set was after still here before stage l t =
+    ⊎-elim (λ e. subst (λ x. Waits after x) (sym e) (here (subst (λ x. T (set x)) e t)))
+    (λ ne. still stage (before stage (omega arith) t)) (cases-eq stage n)
 
 module _ (q : Queue) (ok : Orderly q) where
   module _ (stage : ℕ) (low : stage < mostStages) (length-ring : length (q .ring) ≡ mostStages)
@@ -147,3 +157,11 @@ module _ (q : Queue) (ok : Orderly q) where
       others = waits-others;
       only = waits-before;
     }
+
+-- A stage that is put in is among those of the queue.
+pub lined-more : (n stage : ℕ) (was after : Queue) → stage < n → Lined n was → Orderly after
+    → ((other : ℕ) → Waits after other → Waits was other ⊎ (other ≡ stage)) → Lined n after
+lined-more n stage was after low lined orderly only = record {
+  orderly = orderly;
+  stages = λ other w. ⊎-elim (lined .stages other) (λ e. subst (λ x. x < n) (sym e) low) (only other w);
+}

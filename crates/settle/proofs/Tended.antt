@@ -13,11 +13,9 @@ use Rattle.program.specs.Meaning.{noMove}
 use Rattle.tally.specs.Algebras.{Algebra, Laws}
 use Rattle.tally.specs.Walks.{Has}
 use Rattle.tally.specs.Rounds.{begins, poured, entry, Within, Kept-from}
-use Rattle.tally.specs.Sweeps.{Under, Still, In-place}
+use Rattle.tally.specs.Sweeps.{Under, Some-walks, Partly, Still, In-place}
 use Rattle.tally.proofs.Sweeps.{under-same, under-trans, under-l, under-r, poured-partly}
-use Rattle.settle.specs.declared.queue.Queue.{Queue}
-use Rattle.settle.specs.Queues.{Waits, Orderly}
-use Rattle.settle.specs.Tended.{Adds-nothing, Tended, Lined, Still-partly}
+use Rattle.settle.specs.Tended.{Adds-nothing, Tended, Still-partly}
 
 -- The number of a move of the list.
 has-number : (moves : List Move) (m : Move) → Has moves m → (k : ℕ) × (k < length moves) × (getD moves k noMove ≡ m)
@@ -129,14 +127,6 @@ module _ {A : Type 0} (K : Algebra A) (laws : Laws K) (moves : List Move) (pass 
           ap (λ x. K .choice (K .before (m .minutes) x) (table (m .leaves))) none
           ∙ ap (λ x. K .choice x (table (m .leaves))) (laws .before-none (m .minutes)) ∙ laws .neutral (table (m .leaves)))
 
--- A stage that is put in is among those of the queue.
-pub lined-more : (n stage : ℕ) (was after : Queue) → stage < n → Lined n was → Orderly after
-    → ((other : ℕ) → Waits after other → Waits was other ⊎ (other ≡ stage)) → Lined n after
-lined-more n stage was after low lined orderly only = record {
-  orderly = orderly;
-  stages = λ other w. ⊎-elim (lined .stages other) (λ e. subst (λ x. x < n) (sym e) low) (only other w);
-}
-
 module _ {A : Type 0} (K : Algebra A) (laws : Laws K) (n : ℕ) (moves : List Move) (within : Within n moves)
     (pass : ℕ → Bool) (k : ℕ) (real : k < length moves) where
   -- A move in place keeps what is said of walks, whatever was said before.
@@ -151,3 +141,11 @@ module _ {A : Type 0} (K : Algebra A) (laws : Laws K) (n : ℕ) (moves : List Mo
       → Kept-from K n was mid → Kept-from K n was after
   above-more was mid after step kept j h =
       step .keeps j (λ e. let l = within k real .0 in omega arith) ∙ kept j h
+
+-- What a table says of the first n stages is all that counts.
+pub partly-same : {A : Type 0} (K : Algebra A) (n : ℕ) (moves : List Move) (pass goals : ℕ → Bool) (was after : ℕ → A)
+    → ((s : ℕ) → s < n → was s ≡ after s) → Partly K n moves pass goals was → Partly K n moves pass goals after
+partly-same K n moves pass goals was after same so = record {
+  some = λ s l. subst (λ x. Some-walks K moves pass goals s x) (same s l) (so .some s l);
+  starts = λ s l. subst (λ x. Under K (begins K goals s) x) (same s l) (so .starts s l);
+}

@@ -27,6 +27,15 @@ pub record Orderly (q : Queue) : Type 0 where
   pub stages : (stage : ℕ) → Waits q stage → stage < mostStages
   pub told : (stage : ℕ) → T (getD (q .waiting) stage false) → Waits q stage
 
+-- An orderly queue of some of n stages.
+pub record Lined (n : ℕ) (queue : Queue) : Type 0 where
+  pub orderly : Orderly queue
+  pub stages : (stage : ℕ) → Waits queue stage → stage < n
+
+-- Each stage of a set, among the first n, waits in the queue.
+abbrev pub All-wait : ℕ → (ℕ → Bool) → Queue → Type 0
+All-wait n set queue = (stage : ℕ) → stage < n → T (set stage) → Waits queue stage
+
 -- A stage is put in, or there is no room for it: all that waited wait, and no other but this stage.
 pub record Puts (stage : ℕ) (was after : Queue) (done : Bool) : Type 0 where
   pub orderly : Orderly after

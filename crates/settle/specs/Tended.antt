@@ -12,7 +12,7 @@ use Rattle.tally.specs.Algebras.{Algebra}
 use Rattle.tally.specs.Rounds.{rounds}
 use Rattle.tally.specs.Sweeps.{Under, Partly, Fixed}
 use Rattle.settle.specs.declared.queue.Queue.{Queue}
-use Rattle.settle.specs.Queues.{Waits, Orderly}
+use Rattle.settle.specs.Queues.{Waits}
 
 -- The move with a number adds nothing to what a table says of the stage that it leaves.
 abbrev pub Adds-nothing : {A : Type 0} → Algebra A → List Move → (pass : ℕ → Bool) → (ℕ → A) → ℕ → Type 0
@@ -27,11 +27,6 @@ Tended K moves pass table due = (k : ℕ) → k < length moves → Adds-nothing 
 -- A move is due if the stage that it enters waits in the queue.
 abbrev pub Due : List Move → Queue → ℕ → Type 0
 Due moves queue k = Waits queue (getD moves k noMove .enters)
-
--- An orderly queue of some of n stages.
-pub record Lined (n : ℕ) (queue : Queue) : Type 0 where
-  pub orderly : Orderly queue
-  pub stages : (stage : ℕ) → Waits queue stage → stage < n
 
 -- What was said of each stage is the choice over some walks to a goal, and so it is still, whatever the goals.
 abbrev pub Still-partly : {A : Type 0} → Algebra A → ℕ → List Move → (pass : ℕ → Bool) → (was after : ℕ → A) → Type 0

@@ -7,20 +7,24 @@ ghost use Prim.Native.Nat.{ℕ, _*_, _≤_, _<_};
 ghost use lib.ListN.{length};
 ghost use Rattle.program.specs.Meaning.{mostStages};
 ghost use Rattle.tally.specs.Walks.{among, tallied};
-ghost use Rattle.tally.specs.Rounds.{begins, entry, Holding, Kept-from};
-ghost use Rattle.tally.specs.Sweeps.{In-place};
+ghost use Rattle.tally.specs.Rounds.{entry, Kept-from};
+ghost use Rattle.tally.specs.Sweeps.{In-place, Still, Of-all};
 ghost use Rattle.tally.specs.Tables.{Filled};
 ghost use Rattle.settle.specs.declared.links.End.the-variants.{Enters};
 ghost use Rattle.settle.specs.Chains.{endAt, Linked};
-ghost use Rattle.settle.specs.Queues.{Waits, Orderly};
-ghost use Rattle.settle.specs.Tended.{Tended, Due, Lined, Still-partly, Settles};
+ghost use Rattle.settle.specs.Queues.{Waits, Orderly, Lined};
+ghost use Rattle.settle.specs.Tended.{Tended, Due, Still-partly, Settles};
 use crate::links::Links;
 use crate::queue::Queue;
 use program::MOST_STAGES;
 use program::Move;
 use tally::Tally;
+use tally::rows::begin_row;
 use tally::rows::clear;
 use tally::rows::tallies;
+
+// A stage is taken out once a round at most. As many rounds as there are stages say all, and after one more none waits.
+const MOST_TURNS: usize = MOST_STAGES * (MOST_STAGES + 1) + 1;
 
 // Adds to what the table says of the stage that a move leaves what it says of the stage that the move enters, with the
 // move's minutes before it. Where that changes something, the stage is put into the queue: false says that it could not be.
@@ -84,4 +88,82 @@ fn pull<T: Tally>(
         link = enters.next[k];
     }
     true
+}
+
+// Takes stages out of the queue until none waits. Answers false where it does not come to that.
+fn flow<T: Tally>(
+    n: usize,
+    moves: &[Move],
+    enters: &Links,
+    pass: &[u32],
+    table: &mut [T],
+    queue: &mut Queue,
+) -> bool
+    requires linked { ⌜ Linked Enters n (now moves) (now enters) ⌝ }
+    requires pass { ⌜ n ≤ length (now pass) ⌝ }
+    requires room { ⌜ n ≤ length (now table) ⌝ }
+    requires lined { ⌜ Lined n (now queue) ⌝ }
+    requires tended { ⌜ Tended (T·Tally .algebra) (now moves) (among (now pass)) (entry (T·Tally .algebra) (now table))
+        (Due (now moves) (now queue)) ⌝ }
+    ensures partly { λ _. ⌜ Still-partly (T·Tally .algebra) n (now (moves .entry)) (among (now (pass .entry)))
+        (entry (T·Tally .algebra) (now (table .entry))) (entry (T·Tally .algebra) (now (table .exit))) ⌝ }
+    ensures above { λ _. ⌜ Kept-from (T·Tally .algebra) n (now (table .entry)) (now (table .exit)) ⌝ }
+    ensures still { λ r. ⌜ (r ≡ true → Still (T·Tally .algebra) (now (moves .entry)) (among (now (pass .entry)))
+        (entry (T·Tally .algebra) (now (table .exit)))) ⌝ }
+{
+    for _turn in 0..MOST_TURNS {
+        let Some(stage) = queue.take() else {
+            return true;
+        };
+        if !pull(n, moves, enters, pass, stage, table, queue) {
+            return false;
+        }
+    }
+    false
+}
+
+// Fills the first row by the queue, with the choice over all walks. Answers false where it does not come to that.
+fn by_queue<T: Tally>(
+    n: usize,
+    moves: &[Move],
+    enters: &Links,
+    pass: &[u32],
+    goals: &[u32],
+    table: &mut [T],
+) -> bool
+    requires linked { ⌜ Linked Enters n (now moves) (now enters) ⌝ }
+    requires pass { ⌜ n ≤ length (now pass) ⌝ }
+    requires goals { ⌜ n ≤ length (now goals) ⌝ }
+    requires room { ⌜ n ≤ length (now table) ⌝ }
+    ensures above { λ _. ⌜ Kept-from (T·Tally .algebra) n (now (table .entry)) (now (table .exit)) ⌝ }
+    ensures all { λ r. ⌜ (r ≡ true → Of-all (T·Tally .algebra) n (now (moves .entry)) (among (now (pass .entry)))
+        (among (now (goals .entry))) (entry (T·Tally .algebra) (now (table .exit)))) ⌝ }
+{
+    let mut queue = Queue::empty();
+    begin_row(0, n, goals, table);
+    queue.put_all(n, goals) && flow(n, moves, enters, pass, table, &mut queue)
+}
+
+// Fills the table with the choices over all walks of at most n moves, which are those over all walks.
+pub fn tally_all<T: Tally>(
+    n: usize,
+    moves: &[Move],
+    enters: &Links,
+    pass: &[u32],
+    goals: &[u32],
+    table: &mut [T],
+)
+    requires linked { ⌜ Linked Enters n (now moves) (now enters) ⌝ }
+    requires pass { ⌜ n ≤ length (now pass) ⌝ }
+    requires goals { ⌜ n ≤ length (now goals) ⌝ }
+    requires room { ⌜ 4 * n ≤ length (now table) ⌝ }
+    requires settles { ⌜ Settles (T·Tally .algebra) n (now moves) (among (now pass)) (among (now goals)) ⌝ }
+    ensures { λ _. ⌜ Filled (T·Tally .algebra) (tallied (T·Tally .algebra) (now (moves .entry))
+        (among (now (pass .entry))) (among (now (goals .entry))) n) n (now (table .entry)) (now (table .exit)) ⌝ }
+{
+    if by_queue(n, moves, enters, pass, goals, table) {
+        clear(n, 4 * n, table);
+    } else {
+        tallies(n, moves, pass, goals, n as u16, table);
+    }
 }

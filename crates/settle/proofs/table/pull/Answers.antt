@@ -13,7 +13,8 @@ use Rattle.settle.specs.declared.links.End.the-variants.{Enters}
 use Rattle.settle.specs.Chains.{endAt, Right}
 use Rattle.settle.specs.Queues.{Waits}
 use Rattle.settle.specs.Tended.{Due}
-use Rattle.settle.proofs.Tended.{tended-more, lined-more, partly-more, above-more}
+use Rattle.settle.proofs.Queues.{lined-more}
+use Rattle.settle.proofs.Tended.{tended-more, partly-more, above-more}
 use Rattle.settle.proofs.table.pull.Needs as need
 
 pub returns-then-not-pour-back : need.returns-then-not-pour-back

@@ -6,7 +6,8 @@ use Rattle.tally.specs.Walks.{among}
 use Rattle.tally.specs.Rounds.{entry, Kept-from}
 use Rattle.settle.specs.declared.links.End.the-variants.{Enters}
 use Rattle.settle.specs.Chains.{endAt}
-use Rattle.settle.specs.Tended.{Tended, Due, Lined, Still-partly}
+use Rattle.settle.specs.Queues.{Lined}
+use Rattle.settle.specs.Tended.{Tended, Due, Still-partly}
 use Rattle.settle.proofs.table.pull.Given as given
 
 -- the moves of the chain from the link on are still due
