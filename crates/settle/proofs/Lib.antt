@@ -1,3 +1,4 @@
 pub mod Chains
 pub mod Queues
+pub mod Removals
 pub mod Tended

@@ -1,0 +1,120 @@
+// The removal of stages from a set, until each that is left has a move into what is left. Each such stage watches one of
+// its moves; when the stage that this move enters is removed, it looks for the next of its moves that leads into the set.
+ghost use mathlib.Core.Path.{_≡_};
+ghost use mathlib.Core.Logic.{_⊎_};
+ghost use mathlib.Core.Bool.{false, cond};
+ghost use Prim.Native.Nat.{ℕ, _-_, _≤_, _<_};
+ghost use lib.ListN.{length};
+ghost use lib.Dec.{T};
+ghost use Rattle.program.specs.Meaning.{mostStages};
+ghost use Rattle.program.specs.Graphs.{timedMove};
+ghost use Rattle.tally.specs.Walks.{among};
+ghost use Rattle.settle.specs.declared.links.End.the-variants.{Leaves, Enters};
+ghost use Rattle.settle.specs.Chains.{endAt, Linked};
+ghost use Rattle.settle.specs.Rows.{sortOf};
+ghost use Rattle.settle.specs.Removals.{None-from, Booked, Watching, Due, Removes, Rewatches, Looks-at};
+use crate::endless::Sort;
+use crate::links::Links;
+use program::MOST_STAGES;
+use program::Move;
+
+// `watched` has for each stage the link to the move that it watches. The stages that are gone stand in `gone`, `count` of
+// them; at the first `done` the moves that enter have been looked at.
+#[derive(Drop)]
+pub struct Removal {
+    stages: usize,
+    watched: [u16; MOST_STAGES],
+    gone: [u16; MOST_STAGES],
+    done: usize,
+    count: usize,
+}
+
+// Whether a move is of the sort and enters the set.
+fn leads(sort: Sort, m: Move, set: &[u32]) -> bool
+    requires { ⌜ m .enters < length (now set) ⌝ }
+    ensures { λ r. ⌜ r ≡ cond (sortOf sort (timedMove m)) (among (now (set .entry)) (m .enters)) false ⌝ }
+{
+    let counts = match sort {
+        Sort::Any => true,
+        Sort::Still => m.minutes == 0,
+    };
+    counts && set[m.enters as usize] > 0
+}
+
+impl Removal {
+    // No stage is gone yet, and none watches a move.
+    pub fn new(stages: usize) -> Removal
+        ensures { λ r. ⌜ r .stages ≡ stages ⌝ ∗ ⌜ r .done ≡ 0 ⌝ ∗ ⌜ r .count ≡ 0 ⌝ }
+    {
+        Removal {
+            stages,
+            watched: [0; MOST_STAGES],
+            gone: [0; MOST_STAGES],
+            done: 0,
+            count: 0,
+        }
+    }
+
+    // Lets a stage watch the next move of its chain, from a link on, that leads into the set. Where there is none the stage
+    // is gone.
+    pub fn watch(
+        &mut self,
+        sort: Sort,
+        moves: &[Move],
+        leaves: &Links,
+        stage: usize,
+        from: u16,
+        set: &mut [u32],
+    )
+        requires linked { ⌜ Linked Leaves (now self .stages) (now moves) (now leaves) ⌝ }
+        requires room { ⌜ now self .stages ≤ length (now set) ⌝ }
+        requires booked { ⌜ Booked (among (now set)) (now self) ⌝ }
+        requires stage { ⌜ stage < now self .stages ⌝ ∗ ⌜ T (among (now set) stage) ⌝ }
+        requires from { ⌜ from ≤ length (now moves) ⌝ ∗ ⌜ (0 < from → endAt Leaves (now moves) (from - 1) ≡ stage) ⌝ }
+        requires none { ⌜ None-from sort (now moves) (among (now set)) stage from ⌝ }
+        ensures { λ _. ⌜ Rewatches sort (now (moves .entry)) stage (now (set .entry)) (now (set .exit))
+            (now (self .entry)) (now (self .exit)) ⌝ }
+    {
+        let mut link = from;
+        while link > 0 && !leads(sort, moves[link as usize - 1], set) {
+            link = leaves.next[link as usize - 1];
+        }
+        if link > 0 {
+            self.watched[stage] = link;
+        } else {
+            set[stage] = 0;
+            self.gone[self.count] = stage as u16;
+            self.count += 1;
+        }
+    }
+
+    // Lets each stage of the set watch a move. Those that cannot are gone.
+    pub fn watch_all(&mut self, sort: Sort, moves: &[Move], leaves: &Links, set: &mut [u32])
+        requires linked { ⌜ Linked Leaves (now self .stages) (now moves) (now leaves) ⌝ }
+        requires room { ⌜ now self .stages ≤ length (now set) ⌝ }
+        requires booked { ⌜ Booked (among (now set)) (now self) ⌝ }
+        ensures removes { λ _. ⌜ Removes sort (now (moves .entry)) (now (set .entry)) (now (set .exit))
+            (now (self .entry)) (now (self .exit)) ⌝ }
+        ensures watching { λ _. ⌜ Watching sort (now (moves .entry)) (among (now (set .exit)))
+            (Due (now (moves .entry)) (now (self .exit))) (now (self .entry) .stages) (now (self .exit)) ⌝ }
+    {
+        for stage in 0..self.stages {
+            if set[stage] > 0 {
+                self.watch(sort, moves, leaves, stage, leaves.first[stage], set);
+            }
+        }
+    }
+
+    // The next stage that is gone, at which the moves that enter are to be looked at.
+    pub fn next_gone(&mut self) -> Option<usize>
+        requires { ⌜ now self .done ≤ now self .count ⌝ ∗ ⌜ now self .count ≤ mostStages ⌝ }
+        ensures { λ r. ⌜ Looks-at (now (self .entry)) (now (self .exit)) r ⌝ }
+    {
+        if self.done == self.count {
+            return None;
+        }
+        let stage = self.gone[self.done] as usize;
+        self.done += 1;
+        Some(stage)
+    }
+}
