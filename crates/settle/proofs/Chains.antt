@@ -6,7 +6,7 @@ use Prim.Native.Nat.{ℕ, _+_, _-_, _≤_, _<_}
 use native.Mathlib.Omega.{arith}
 use lib.ListN.{length, getD, set, replicate}
 use Rattle.std.proofs.shelf.Lists.{getD-set-same, getD-set-other, getD-replicate, getD-past}
-use Rattle.std.proofs.shelf.Tests.{cases-eq}
+use Rattle.std.proofs.shelf.Tests.{cases-eq, cases-lt}
 use Rattle.program.specs.declared.Move.{Move}
 use Rattle.tally.specs.Rounds.{Within}
 use Rattle.settle.specs.declared.links.End.{End}
@@ -73,3 +73,10 @@ pub end-within : (end : End) (n : ℕ) (moves : List Move) → Within n moves �
     → endAt end moves k < n
 end-within Leaves n moves w k h = w k h .0
 end-within Enters n moves w k h = w k h .1
+
+-- What is still to come of a chain, once the move of a link is passed, are the moves from its next link on.
+pub chain-more : (end : End) (moves : List Move) (stage link next : ℕ) → Right end moves stage (link - 1) next
+    → (j : ℕ) → (j ≡ link - 1 → ⊥) → (endAt end moves j ≡ stage) × (j < link)
+    → (endAt end moves j ≡ stage) × (j < next)
+chain-more end moves stage link next right j ne o =
+    (o .0, ⊎-elim (λ l. l) (λ l. absurd (right .last j l (omega (arith, o .1)) (o .0))) (cases-lt j next))

@@ -8,16 +8,16 @@ use native.Mathlib.Omega.{arith}
 use lib.ListN.{length, getD, set}
 use lib.Dec.{T, ltb}
 use Rattle.std.proofs.shelf.Lists.{getD-set-same, getD-set-other}
-use Rattle.std.proofs.shelf.Tests.{cases-eq}
+use Rattle.std.proofs.shelf.Tests.{cases-eq, cases-lt}
 use Rattle.program.specs.declared.Move.{Move}
 use Rattle.program.specs.Meaning.{mostStages}
 use Rattle.tally.specs.Walks.{among}
 use Rattle.tctl.proofs.Basics.{card, card-lt}
 use Rattle.settle.specs.declared.links.End.the-variants.{Leaves, Enters}
 use Rattle.settle.specs.declared.endless.Sort.{Sort}
-use Rattle.settle.specs.Chains.{endAt}
+use Rattle.settle.specs.Chains.{endAt, Right}
 use Rattle.settle.specs.declared.removal.Removal.{Removal}
-use Rattle.settle.specs.Removals.{None-from, Watched, Watching, Due, Booked, Lasting, Inside, Removes, Rewatches}
+use Rattle.settle.specs.Removals.{None-from, Watched, Watching, Due, Booked, Outside, Lasting, Inside, Removes, Rewatches}
 
 -- While a stage is left there is room for one more that is gone.
 pub room-left : (set : ℕ → Bool) (r : Removal) → Booked set r → (stage : ℕ) → stage < r .stages → T (set stage)
@@ -70,15 +70,17 @@ module _ (sort : Sort) (moves : List Move) (stage : ℕ) (was : List ℕ) (r : R
   in-room : r .count < length (r .gone)
   in-room = let l = room-left (among was) r booked stage low left in let h = booked .few in omega arith
 
-  still-stages : (i : ℕ) → i < r .count + 1 → getD (set (r .gone) (r .count) stage) i 0 < r .stages
-  still-stages i l =
+  still-outside : (i : ℕ) → i < r .count + 1 → Outside (r .stages) (among fewer) (getD (set (r .gone) (r .count) stage) i 0)
+  still-outside i l =
       ⊎-elim
       (λ e.
-      subst (λ x. getD (set (r .gone) (r .count) stage) x 0 < r .stages) (sym e)
-      (subst (λ x. x < r .stages) (sym (getD-set-same (r .gone) (r .count) stage 0 in-room)) low))
+      subst (λ x. Outside (r .stages) (among fewer) (getD (set (r .gone) (r .count) stage) x 0)) (sym e)
+      (subst (λ x. Outside (r .stages) (among fewer) x) (sym (getD-set-same (r .gone) (r .count) stage 0 in-room))
+      (low, not-left)))
       (λ ne.
-      subst (λ x. x < r .stages) (sym (getD-set-other (r .gone) (r .count) i stage 0 ne))
-      (booked .are-stages i (omega arith)))
+      let o = booked .outside i (omega arith) in
+      subst (λ x. Outside (r .stages) (among fewer) x) (sym (getD-set-other (r .gone) (r .count) i stage 0 ne))
+      (o .0, λ t. o .1 (fewer-inside _ t)))
       (cases-eq i (r .count))
 
   -- A stage with no move into the set is gone.
@@ -95,7 +97,7 @@ module _ (sort : Sort) (moves : List Move) (stage : ℕ) (was : List ℕ) (r : R
             card-lt (among fewer) (among was) fewer-inside stage not-left left (r .stages) low in
             let h = booked .room in
             omega arith;
-        are-stages = still-stages;
+        outside = still-outside;
       };
       stages = refl;
       done = refl;
@@ -176,3 +178,34 @@ module _ (sort : Sort) (moves : List Move) where
       (λ h. ⊎-elim (λ x. inl x) (λ g. inr (gone (link - 1) g)) (re .left _ h))
       (still (link - 1) (λ e. ne (sym (w .leaves) ∙ e))) w))
       (cases-eq other stage)
+
+  -- Where the move of a link leads into the set no more, no move from its next link on does unless it is lower.
+  pub none-next : (set : ℕ → Bool) (stage link next : ℕ) → Right Leaves moves stage (link - 1) next → 0 < link
+      → (T (set (endAt Enters moves (link - 1))) → ⊥) → None-from sort moves set stage link
+      → None-from sort moves set stage next
+  none-next set stage link next right some out none k h lead =
+      ⊎-elim (λ e. out (subst (λ x. T (set (endAt Enters moves x))) e (lead .enters)))
+      (λ ne. ⊎-elim (λ l. right .last k h (omega arith) (lead .leaves)) (λ l. none k l lead) (cases-lt k link))
+      (cases-eq k (link - 1))
+
+  -- Each of the first stages watches a move where fewer are due, if what was due is.
+  pub watching-due : (n : ℕ) (set : ℕ → Bool) (r : Removal) (due next : ℕ → Type 0) → ((k : ℕ) → due k → next k)
+      → Watching sort moves set due n r → Watching sort moves set next n r
+  watching-due n set r due next still watching stage l t =
+      watched-more set set due next stage (getD (r .watched) stage 0) (λ x h. h) (λ h. inl h) (still _)
+      (watching stage l t)
+
+  -- The same but for move k, if the stage that it leaves does not watch it.
+  pub watching-next : (n : ℕ) (set : ℕ → Bool) (r : Removal) (due next : ℕ → Type 0) (k : ℕ)
+      → ((j : ℕ) → (j ≡ k → ⊥) → due j → next j)
+      → (T (set (endAt Leaves moves k)) → getD (r .watched) (endAt Leaves moves k) 0 ≡ k + 1 → ⊥)
+      → Watching sort moves set due n r → Watching sort moves set next n r
+  watching-next n set r due next k still other watching stage l t =
+      let w = watching stage l t in
+      let link = getD (r .watched) stage 0 in
+      let real = w .real in
+      watched-more set set due next stage link (λ x h. h) (λ h. inl h)
+      (still (link - 1)
+      (λ e.
+      let same = sym (w .leaves) ∙ ap (endAt Leaves moves) e in
+      other (subst (λ x. T (set x)) same t) (subst (λ x. getD (r .watched) x 0 ≡ k + 1) same (omega arith)))) w

@@ -59,12 +59,16 @@ pub record Gone (r : Removal) (stage : ℕ) : Type 0 where
 abbrev pub Due : List Move → Removal → ℕ → Type 0
 Due moves r k = Gone r (endAt Enters moves k)
 
--- Those that are gone are stages, and with those that are left they are not more than all stages.
+-- A stage that is not left of a set.
+abbrev pub Outside : ℕ → (ℕ → Bool) → ℕ → Type 0
+Outside n set stage = (stage < n) × (T (set stage) → ⊥)
+
+-- Those that are gone are stages and not left, and with those that are left they are not more than all stages.
 pub record Booked (set : ℕ → Bool) (r : Removal) : Type 0 where
   pub few : r .stages ≤ mostStages
   pub order : r .done ≤ r .count
   pub room : card set (r .stages) + r .count ≤ r .stages
-  pub are-stages : (i : ℕ) → i < r .count → getD (r .gone) i 0 < r .stages
+  pub outside : (i : ℕ) → i < r .count → Outside (r .stages) set (getD (r .gone) i 0)
 
 -- Each stage of a part has a move of the sort into the part.
 abbrev pub Lasting : Sort → List Move → (ℕ → Bool) → Type 0
@@ -97,7 +101,7 @@ pub record Rewatches (sort : Sort) (moves : List Move) (stage : ℕ) (was after 
 
 -- The next stage that is gone is looked at.
 pub record Looks (stage : ℕ) (before now : Removal) : Type 0 where
-  pub is-stage : (set : ℕ → Bool) → Booked set before → stage < before .stages
+  pub outside : (set : ℕ → Bool) → Booked set before → Outside (before .stages) set stage
   pub stages : now .stages ≡ before .stages
   pub done : now .done ≡ before .done + 1
   pub booked : (set : ℕ → Bool) → Booked set before → Booked set now

@@ -2,9 +2,9 @@
 // its moves; when the stage that this move enters is removed, it looks for the next of its moves that leads into the set.
 ghost use mathlib.Core.Path.{_≡_};
 ghost use mathlib.Core.Logic.{_⊎_};
-ghost use mathlib.Core.Bool.{false, cond};
+ghost use mathlib.Core.Bool.{true, false, cond};
 ghost use Prim.Native.Nat.{ℕ, _-_, _≤_, _<_};
-ghost use lib.ListN.{length};
+ghost use lib.ListN.{length, getD};
 ghost use lib.Dec.{T};
 ghost use Rattle.program.specs.Meaning.{mostStages};
 ghost use Rattle.program.specs.Graphs.{timedMove};
@@ -12,7 +12,7 @@ ghost use Rattle.tally.specs.Walks.{among};
 ghost use Rattle.settle.specs.declared.links.End.the-variants.{Leaves, Enters};
 ghost use Rattle.settle.specs.Chains.{endAt, Linked};
 ghost use Rattle.settle.specs.Rows.{sortOf};
-ghost use Rattle.settle.specs.Removals.{None-from, Booked, Watching, Due, Removes, Rewatches, Looks-at};
+ghost use Rattle.settle.specs.Removals.{None-from, Outside, Booked, Watching, Due, Removes, Rewatches, Looks-at};
 use crate::endless::Sort;
 use crate::links::Links;
 use program::MOST_STAGES;
@@ -116,5 +116,47 @@ impl Removal {
         let stage = self.gone[self.done] as usize;
         self.done += 1;
         Some(stage)
+    }
+
+    // Whether a stage is left and watches the move of a link.
+    fn watches(&self, stage: usize, link: u16, set: &[u32]) -> bool
+        requires { ⌜ stage < mostStages ⌝ ∗ ⌜ stage < length (now set) ⌝ }
+        ensures is { λ r. ⌜ (r ≡ true → T (among (now (set .entry)) stage) × (getD (now (self .entry) .watched) stage 0 ≡ link)) ⌝ }
+        ensures isnt { λ r. ⌜ (r ≡ false → T (among (now (set .entry)) stage) → getD (now (self .entry) .watched) stage 0 ≡ link → ⊥) ⌝ }
+    {
+        set[stage] > 0 && self.watched[stage] == link
+    }
+
+    // Looks at the moves that enter a stage that is gone: a stage that watches one of them watches another, or is gone.
+    pub fn look(
+        &mut self,
+        sort: Sort,
+        moves: &[Move],
+        leaves: &Links,
+        enters: &Links,
+        gone: usize,
+        set: &mut [u32],
+    )
+        requires leaves { ⌜ Linked Leaves (now self .stages) (now moves) (now leaves) ⌝ }
+        requires enters { ⌜ Linked Enters (now self .stages) (now moves) (now enters) ⌝ }
+        requires gone { ⌜ Outside (now self .stages) (among (now set)) gone ⌝ }
+        requires room { ⌜ now self .stages ≤ length (now set) ⌝ }
+        requires booked { ⌜ Booked (among (now set)) (now self) ⌝ }
+        requires watching { ⌜ Watching sort (now moves) (among (now set))
+            (λ k. Due (now moves) (now self) k ⊎ (endAt Enters (now moves) k ≡ gone)) (now self .stages) (now self) ⌝ }
+        ensures removes { λ _. ⌜ Removes sort (now (moves .entry)) (now (set .entry)) (now (set .exit))
+            (now (self .entry)) (now (self .exit)) ⌝ }
+        ensures watching { λ _. ⌜ Watching sort (now (moves .entry)) (among (now (set .exit)))
+            (Due (now (moves .entry)) (now (self .exit))) (now (self .entry) .stages) (now (self .exit)) ⌝ }
+    {
+        let mut link = enters.first[gone];
+        while link > 0 {
+            let k = link as usize - 1;
+            let stage = moves[k].leaves as usize;
+            if self.watches(stage, link, set) {
+                self.watch(sort, moves, leaves, stage, leaves.next[k], set);
+            }
+            link = enters.next[k];
+        }
     }
 }

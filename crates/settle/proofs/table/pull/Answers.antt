@@ -4,7 +4,7 @@ use mathlib.Core.Bool.{true}
 use Prim.Native.Nat.{ℕ, _-_, _≤_, _<_}
 use native.Mathlib.Omega.{arith}
 use lib.ListN.{length, getD}
-use Rattle.std.proofs.shelf.Tests.{cases-lt, false≢true}
+use Rattle.std.proofs.shelf.Tests.{false≢true}
 use Rattle.program.specs.declared.Move.{Move}
 use Rattle.program.specs.Meaning.{noMove}
 use Rattle.tally.specs.Walks.{among}
@@ -13,6 +13,7 @@ use Rattle.settle.specs.declared.links.End.the-variants.{Enters}
 use Rattle.settle.specs.Chains.{endAt, Right}
 use Rattle.settle.specs.Queues.{Waits}
 use Rattle.settle.specs.Tended.{Due}
+use Rattle.settle.proofs.Chains.{chain-more}
 use Rattle.settle.proofs.Queues.{lined-more}
 use Rattle.settle.proofs.Tended.{tended-more, partly-more, above-more}
 use Rattle.settle.proofs.table.pull.Needs as need
@@ -69,7 +70,6 @@ loop-link-again g c =
       tended-more K laws moves pass k (entry K (c .loop-link .table)) (entry K (c .pour-back .last .table))
           (λ j. Due moves was j ⊎ ((endAt Enters moves j ≡ stage) × (j < link)))
           (λ j. Due moves after j ⊎ ((endAt Enters moves j ≡ stage) × (j < next))) (poured .place) (inv .5)
-          (λ j ne. ⊎-elim (λ w. inl (poured .still _ w))
-          (λ o. inr (o .0, ⊎-elim (λ l. l) (λ l. absurd (right .last j l (omega (arith, o .1)) (o .0))) (cases-lt j next))))
+          (λ j ne. ⊎-elim (λ w. inl (poured .still _ w)) (λ o. inr (chain-more Enters moves stage link next right j ne o)))
           (λ j e. ⊎-elim (λ q. inl q) (λ w. inr (inl (subst (Waits after) (sym e) w))) (poured .waits (c .if-not-pour-back .left))),
     )
