@@ -17,7 +17,7 @@ use Rattle.settle.specs.declared.links.End.the-variants.{Leaves, Enters}
 use Rattle.settle.specs.declared.endless.Sort.{Sort}
 use Rattle.settle.specs.Chains.{endAt, Right}
 use Rattle.settle.specs.declared.removal.Removal.{Removal}
-use Rattle.settle.specs.Removals.{None-from, Watched, Watching, Due, Booked, Outside, Lasting, Inside, Removes, Rewatches}
+use Rattle.settle.specs.Removals.{None-from, Watched, Watching, Due, Booked, Outside, Lasting, Inside, Shrinks, Removes, Rewatches}
 
 -- While a stage is left there is room for one more that is gone.
 pub room-left : (set : ℕ → Bool) (r : Removal) → Booked set r → (stage : ℕ) → stage < r .stages → T (set stage)
@@ -124,14 +124,19 @@ module _ (sort : Sort) (moves : List Move) (stage : ℕ) (was : List ℕ) (r : R
   }
 
 module _ (sort : Sort) (moves : List Move) where
+  -- A set shrinks again.
+  pub shrinks-more : (was mid after : ℕ → Bool) → Shrinks sort moves was mid → Shrinks sort moves mid after
+      → Shrinks sort moves was after
+  shrinks-more was mid after one two = record {
+    inside = λ x h. one .inside x (two .inside x h);
+    lasts = λ part lasting inside. two .lasts part lasting (one .lasts part lasting inside);
+  }
+
   -- One removal after another.
   pub removes-more : (was mid after : List ℕ) (r s t : Removal) → Removes sort moves was mid r s
       → Removes sort moves mid after s t → Removes sort moves was after r t
   removes-more was mid after r s t one two = record {
-    shrinks = record {
-      inside = λ x h. one .shrinks .inside x (two .shrinks .inside x h);
-      lasts = λ part lasting inside. two .shrinks .lasts part lasting (one .shrinks .lasts part lasting inside);
-    };
+    shrinks = shrinks-more (among was) (among mid) (among after) (one .shrinks) (two .shrinks);
     rest = λ i h. two .rest i (subst (λ x. x ≤ i) (sym (one .stages)) h) ∙ one .rest i h;
     booked = two .booked;
     stages = two .stages ∙ one .stages;

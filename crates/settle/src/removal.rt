@@ -2,7 +2,7 @@
 // its moves; when the stage that this move enters is removed, it looks for the next of its moves that leads into the set.
 ghost use mathlib.Core.Path.{_≡_};
 ghost use mathlib.Core.Logic.{_⊎_};
-ghost use mathlib.Core.Bool.{true, false, cond};
+ghost use mathlib.Core.Bool.{Bool, true, false, cond};
 ghost use Prim.Native.Nat.{ℕ, _-_, _≤_, _<_};
 ghost use lib.ListN.{length, getD};
 ghost use lib.Dec.{T};
@@ -44,7 +44,9 @@ fn leads(sort: Sort, m: Move, set: &[u32]) -> bool
 impl Removal {
     // No stage is gone yet, and none watches a move.
     pub fn new(stages: usize) -> Removal
-        ensures { λ r. ⌜ r .stages ≡ stages ⌝ ∗ ⌜ r .done ≡ 0 ⌝ ∗ ⌜ r .count ≡ 0 ⌝ }
+        requires { ⌜ stages ≤ mostStages ⌝ }
+        ensures all { λ r. ⌜ r .stages ≡ stages ⌝ }
+        ensures booked { λ r. ⌜ ((set : ℕ → Bool) → Booked set r) ⌝ }
     {
         Removal {
             stages,
