@@ -1,6 +1,6 @@
 -- The three tallies keep the laws.
 use mathlib.Core.Path.{_≡_, refl, ap}
-use Prim.Native.Nat.{ℕ, _+_, min, max}
+use Prim.Native.Nat.{ℕ}
 use native.Mathlib.Omega.{arith}
 use Rattle.tally.specs.declared.Reach.{Reach}
 use Rattle.tally.specs.declared.Reach.the-variants as reach
@@ -8,7 +8,7 @@ use Rattle.tally.specs.declared.Shortest.{Shortest}
 use Rattle.tally.specs.declared.Shortest.the-variants as short
 use Rattle.tally.specs.declared.Longest.{Longest}
 use Rattle.tally.specs.declared.Longest.the-variants as long
-use Rattle.tally.specs.Algebras.{Algebra, Laws, reachAlgebra, shortestAlgebra, longestAlgebra, eitherReach, shorter, longer, shortAfter, longAfter}
+use Rattle.tally.specs.Algebras.{Laws, reachAlgebra, shortestAlgebra, longestAlgebra, eitherReach, shorter, longer, shortAfter, longAfter}
 
 reach-assoc : (a b c : Reach) → eitherReach (eitherReach a b) c ≡ eitherReach a (eitherReach b c)
 reach-assoc reach.Never b c = refl

@@ -1,5 +1,5 @@
--- After as many rounds as there are stages, one more changes nothing: for reach and shortest always, and for longest where
--- no walk has more moves than there are stages.
+-- After as many rounds as there are stages, one more changes nothing: for reach and shortest always, and for longest
+-- where no walk has more moves than there are stages.
 use mathlib.Core.Path.{_≡_, refl, sym, _∙_, ap, subst}
 use mathlib.Core.List.{List, [], _∷_, map}
 use mathlib.Core.Bool.{Bool}

@@ -172,12 +172,13 @@ module _ {A : Type 0} (K : Algebra A) (laws : Laws K) where
 
     -- What a table begins with
 
-    pub none-some : (s : ℕ) → Some-walks K moves pass goals s (K .none)
-    none-some s = record { ways = []; lead = λ w h. absurd h; sums = refl }
-
     pub begins-some : (s : ℕ) → Some-walks K moves pass goals s (begins K goals s)
     begins-some s =
-        record { ways = cond (goals s) ([] ∷ []) []; lead = lead (goals s) refl; sums = sym (chosen-goal K laws (goals s)) }
+        record {
+          ways = cond (goals s) ([] ∷ []) [];
+          lead = lead (goals s) refl;
+          sums = sym (chosen-goal K laws (goals s));
+        }
       where
         lead : (b : Bool) → b ≡ goals s → (w : List Move) → Has (cond b ([] ∷ []) []) w → Leads moves pass goals s w
         lead true e w (inl q) =

@@ -26,7 +26,8 @@ Enough n pass goals table = (n ≤ length pass) × (n ≤ length goals) × (4 * 
 abbrev pub tallyFaultNumber : TallyFault → ℕ
 tallyFaultNumber ShortMemory = 15
 
--- With enough memory the table is filled with the choices over all walks of at most k moves; with less it stays as found.
+-- With enough memory the table is filled with the choices over all walks of at most k moves; with less it stays as
+-- found.
 pub record Fills {A : Type 0} (K : Algebra A) (p : Prog) (pass goals : List ℕ) (k : ℕ) (was after : List A)
     (r : Result (Unit {0}) TallyFault) : Type 0 where
   pub accepts : Enough (length (p .stages)) pass goals was → r ≡ Ok tt

@@ -1,11 +1,12 @@
 // Tallies: for each stage of a program, what sums up the walks from it to a goal. A walk is a list of moves, each leaving
-// the stage that the one before it enters. `tables::fill` is the call for any readable program. Rests on `program`.
+// the stage that the one before it enters. `tables::fill` is the call for any readable program. Rests on `program`,
+// and in its proofs on `tctl`.
 pub mod rows;
 pub mod tables;
 
 ghost use mathlib.Core.Path.{_≡_};
 ghost use mathlib.Core.Bool.{true};
-ghost use Prim.Native.Nat.{ℕ, _+_, min, _≤_, _<_};
+ghost use Prim.Native.Nat.{_+_, min, _<_};
 ghost use Rattle.tally.specs.Algebras.{Algebra, Laws, mostSum, reachAlgebra, shortestAlgebra, longestAlgebra};
 
 // What sums up walks. Its values are those of the type.

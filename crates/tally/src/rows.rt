@@ -1,5 +1,5 @@
-// The rounds that fill a table, over plain slices. The table's first row of n entries has what is said now, its second row
-// what the round makes of it.
+// The rounds that fill a table, over plain slices. The table's first row of n entries has what is said now, its second
+// row what the round makes of it.
 ghost use mathlib.Core.Path.{_≡_};
 ghost use mathlib.Core.Bool.{true};
 ghost use Prim.Native.Nat.{ℕ, _+_, _*_, _≤_, _<_};

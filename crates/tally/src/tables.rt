@@ -1,6 +1,6 @@
 // The table of a tally over any readable program.
 ghost use mathlib.Core.Path.{_≡_};
-ghost use Prim.Native.Nat.{ℕ, _*_, _≤_, _<_};
+ghost use Prim.Native.Nat.{_*_, _≤_, _<_};
 ghost use lib.ListN.{length, take};
 ghost use Rattle.tally.specs.Tables.{Fills, tallyFaultNumber};
 use crate::Tally;

@@ -155,10 +155,9 @@ find P (suc n) = go (passes (P n)) (find P n)
     go (inr d) (inr f) = inr
         (λ s l t. ⊎-elim (λ e. d (subst (λ x. T (P x)) e t)) (λ e. f s (omega arith) t) (cases-eq s n))
 
--- Among n + 1 values below n, two are equal.
-
+-- Among n + 1 values below n, two are equal, and the first of them has at most n before it.
 pigeons : (n c : ℕ) (A : ℕ → Bool) (f : ℕ → ℕ) → card A n ≤ c → ((i : ℕ) → f i < n) → ((i : ℕ) → i ≤ c → T (A (f i)))
-    → (i : ℕ) × (k : ℕ) × (f i ≡ f (i + suc k))
+    → (i : ℕ) × (k : ℕ) × (f i ≡ f (i + suc k)) × (i ≤ c)
 pigeons n zero A f l b h = absurd (card-none A n l (f 0) (b 0) (h 0 (omega arith)))
 pigeons n (suc c) A f l b h =
     let less = minus-less (f 0) A n (b 0) (h 0 (omega arith)) in
@@ -167,12 +166,14 @@ pigeons n (suc c) A f l b h =
     (λ i m. minus-keeps (f 0) A (f (suc i)) (h (suc i) (omega arith)) (d i (omega arith))))
   where
     go : ((j : ℕ) × (j < suc c) × T (eqb (f (suc j)) (f 0))) ⊎ ((j : ℕ) → j < suc c → T (eqb (f (suc j)) (f 0)) → ⊥)
-        → (((i : ℕ) → i < suc c → f (suc i) ≡ f 0 → ⊥) → (i : ℕ) × (k : ℕ) × (f (suc i) ≡ f (suc (i + suc k))))
-        → (i : ℕ) × (k : ℕ) × (f i ≡ f (i + suc k))
-    go (inl o) again = (0, o .0, sym (eqb→eq (f (suc (o .0))) (f 0) (o .2)) ∙ ap f (sym (zero-add (suc (o .0)))))
+        → (((i : ℕ) → i < suc c → f (suc i) ≡ f 0 → ⊥)
+        → (i : ℕ) × (k : ℕ) × (f (suc i) ≡ f (suc (i + suc k))) × (i ≤ c))
+        → (i : ℕ) × (k : ℕ) × (f i ≡ f (i + suc k)) × (i ≤ suc c)
+    go (inl o) again =
+        (0, o .0, sym (eqb→eq (f (suc (o .0))) (f 0) (o .2)) ∙ ap f (sym (zero-add (suc (o .0)))), omega arith)
     go (inr d) again =
         let o = again (λ i m e. d i m (subst (λ x. T (eqb (f (suc i)) x)) e (eqb-refl (f (suc i))))) in
-        (suc (o .0), o .1, o .2 ∙ ap f (sym (suc-add (o .0) (suc (o .1)))))
+        (suc (o .0), o .1, o .2 ∙ ap f (sym (suc-add (o .0) (suc (o .1)))), omega (arith, o .3))
 
-pub pigeon : (n : ℕ) (f : ℕ → ℕ) → ((i : ℕ) → f i < n) → (i : ℕ) × (k : ℕ) × (f i ≡ f (i + suc k))
+pub pigeon : (n : ℕ) (f : ℕ → ℕ) → ((i : ℕ) → f i < n) → (i : ℕ) × (k : ℕ) × (f i ≡ f (i + suc k)) × (i ≤ n)
 pigeon n f b = pigeons n n (λ x. true) f (card-top (λ x. true) n) b (λ i l. tt)

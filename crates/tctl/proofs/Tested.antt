@@ -22,7 +22,7 @@ all-e f (suc n) t i l =
     let ih = all-e f n (and-r (f n) (all-below n f) t) i in
     ⊎-elim (λ e. subst (λ x. T (f x)) (sym e) (and-l (f n) (all-below n f) t)) (λ d. ih (omega arith)) (cases-eq i n)
 
-all-i : (f : ℕ → Bool) (n : ℕ) → ((i : ℕ) → i < n → T (f i)) → T (all-below n f)
+pub all-i : (f : ℕ → Bool) (n : ℕ) → ((i : ℕ) → i < n → T (f i)) → T (all-below n f)
 all-i f zero h = tt
 all-i f (suc n) h = and-i (f n) (all-below n f) (h n (omega arith)) (all-i f n (λ i l. h i (omega arith)))
 

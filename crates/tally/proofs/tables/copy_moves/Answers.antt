@@ -1,7 +1,7 @@
 use mathlib.Core.Path.{_≡_, _∙_}
-use Prim.Native.Nat.{ℕ, _≤_, _<_}
+use Prim.Native.Nat.{_≤_, _<_}
 use native.Mathlib.Omega.{arith}
-use lib.ListN.{length, take, getD}
+use lib.ListN.{length, take}
 use Rattle.std.proofs.shelf.Lists.{ext-getD, getD-take, length-take-le}
 use Rattle.program.specs.Meaning.{noMove}
 use Rattle.tally.proofs.tables.copy_moves.Needs as need

@@ -1,0 +1,4 @@
+pub mod Cycles
+pub mod Finds
+pub mod Exclusive
+pub mod Checks

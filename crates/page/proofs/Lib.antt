@@ -1,0 +1,4 @@
+pub mod Printed
+pub mod LastLine
+pub mod Told
+pub mod Series

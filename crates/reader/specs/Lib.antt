@@ -1,0 +1,5 @@
+pub mod Grammar
+pub mod Parts
+pub mod Drafts
+pub mod Reads
+pub mod Answer

@@ -1,0 +1,4 @@
+pub mod Rows
+pub mod Ops
+pub mod Told
+pub mod Sheets

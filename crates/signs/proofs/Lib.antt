@@ -1,0 +1,4 @@
+pub mod Lexing
+pub mod Told
+pub mod Letters
+pub mod Writing
