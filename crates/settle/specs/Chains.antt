@@ -9,6 +9,7 @@ use Rattle.tally.specs.Rounds.{Within}
 use Rattle.settle.specs.declared.links.End.{End}
 use Rattle.settle.specs.declared.links.End.the-variants.{Leaves, Enters}
 use Rattle.settle.specs.declared.links.Links.{Links}
+use Rattle.settle.specs.declared.links.Chains.{Chains}
 
 abbrev pub endOf : End → Move → ℕ
 endOf Leaves m = m .leaves
@@ -36,3 +37,7 @@ pub record Linked (end : End) (n : ℕ) (moves : List Move) (links : Links) : Ty
   pub few-moves : length moves ≤ mostMoves
   pub within : Within n moves
   pub chained : Chained end n moves (length moves) (links .first) (links .next)
+
+pub record Chains-of (n : ℕ) (moves : List Move) (chains : Chains) : Type 0 where
+  pub leaves : Linked Leaves n moves (chains .leaves)
+  pub enters : Linked Enters n moves (chains .enters)

@@ -70,6 +70,10 @@ pub record Booked (set : ℕ → Bool) (r : Removal) : Type 0 where
   pub room : card set (r .stages) + r .count ≤ r .stages
   pub outside : (i : ℕ) → i < r .count → Outside (r .stages) set (getD (r .gone) i 0)
 
+-- Those that are gone are stages.
+abbrev pub All-stages : Removal → Type 0
+All-stages r = (i : ℕ) → i < r .count → getD (r .gone) i 0 < r .stages
+
 -- Each stage of a part has a move of the sort into the part.
 abbrev pub Lasting : Sort → List Move → (ℕ → Bool) → Type 0
 Lasting sort moves part = (stage : ℕ) → T (part stage) → (k : ℕ) × Leads sort moves part stage k
@@ -108,6 +112,15 @@ pub record Looks (stage : ℕ) (before now : Removal) : Type 0 where
   pub watched : now .watched ≡ before .watched
   pub others : (other : ℕ) → Gone before other → (other ≡ stage) ⊎ Gone now other
 
+-- The next stage that is gone, or none if all were looked at.
 abbrev pub Looks-at : Removal → Removal → Option ℕ → Type 0
-Looks-at before now None = (stage : ℕ) → Gone before stage → ⊥
+Looks-at before now None = ((stage : ℕ) → Gone before stage → ⊥) × (now ≡ before)
 Looks-at before now (Some stage) = Looks stage before now
+
+-- What all removals come to: each of the first n stages that is left has a move into what is left.
+pub record Removed (sort : Sort) (n : ℕ) (moves : List Move) (was after : List ℕ) (r : Removal) : Type 0 where
+  pub shrinks : Shrinks sort moves (among was) (among after)
+  pub rest : Rest-kept n was after
+  pub stages : r .stages ≡ n
+  pub booked : Booked (among after) r
+  pub watching : Watching sort moves (among after) (λ k. ⊥) n r

@@ -3,10 +3,9 @@ ghost use mathlib.Core.Path.{_≡_};
 ghost use Prim.Native.Nat.{_≤_};
 ghost use lib.ListN.{length};
 ghost use Rattle.tctl.specs.Checker.{endless};
-ghost use Rattle.settle.specs.declared.links.End.the-variants.{Leaves, Enters};
-ghost use Rattle.settle.specs.Chains.{Linked};
+ghost use Rattle.settle.specs.Chains.{Chains-of};
 ghost use Rattle.settle.specs.Rows.{graphOf, row, Rest-kept, sortOf};
-use crate::links::Links;
+use crate::links::Chains;
 use crate::removal::Removal;
 use program::Move;
 use program::Stage;
@@ -19,25 +18,13 @@ pub enum Sort {
 }
 
 // Leaves of the set the greatest part in which each stage has a move of the sort into the part.
-pub fn keep_endless(
-    sort: Sort,
-    stages: &[Stage],
-    moves: &[Move],
-    leaves: &Links,
-    enters: &Links,
-    set: &mut [u32],
-)
-    requires leaves { ⌜ Linked Leaves (length (now stages)) (now moves) (now leaves) ⌝ }
-    requires enters { ⌜ Linked Enters (length (now stages)) (now moves) (now enters) ⌝ }
+pub fn keep_endless(sort: Sort, stages: &[Stage], moves: &[Move], chains: &Chains, set: &mut [u32])
+    requires chains { ⌜ Chains-of (length (now stages)) (now moves) (now chains) ⌝ }
     requires set { ⌜ length (now stages) ≤ length (now set) ⌝ }
     ensures left { λ _. ⌜ row (length (now (stages .entry))) (now (set .exit))
         ≡ endless (graphOf (now (stages .entry)) (now (moves .entry))) (sortOf sort)
         (row (length (now (stages .entry))) (now (set .entry))) (length (now (stages .entry))) ⌝ }
     ensures above { λ _. ⌜ Rest-kept (length (now (stages .entry))) (now (set .entry)) (now (set .exit)) ⌝ }
 {
-    let mut removal = Removal::new(stages.len());
-    removal.watch_all(sort, moves, leaves, set);
-    while let Some(gone) = removal.next_gone() {
-        removal.look(sort, moves, leaves, enters, gone, set);
-    }
+    let _removal = Removal::of(sort, stages.len(), moves, chains, set);
 }

@@ -5,7 +5,7 @@ ghost use Prim.Native.Nat.{_≤_};
 ghost use lib.ListN.{length};
 ghost use Rattle.program.specs.Meaning.{mostStages, mostMoves};
 ghost use Rattle.tally.specs.Rounds.{Within};
-ghost use Rattle.settle.specs.Chains.{endOf, Linked};
+ghost use Rattle.settle.specs.Chains.{endOf, Linked, Chains-of};
 use program::MOST_MOVES;
 use program::MOST_STAGES;
 use program::Move;
@@ -36,7 +36,7 @@ fn end_of(end: End, m: Move) -> u16
 }
 
 // Chains the moves by one of their ends.
-pub fn chain(end: End, n: usize, moves: &[Move]) -> Links
+fn chain(end: End, n: usize, moves: &[Move]) -> Links
     requires stages { ⌜ n ≤ mostStages ⌝ }
     requires moves { ⌜ length (now moves) ≤ mostMoves ⌝ }
     requires within { ⌜ Within n (now moves) ⌝ }
@@ -50,4 +50,25 @@ pub fn chain(end: End, n: usize, moves: &[Move]) -> Links
         first[stage] = k as u16 + 1;
     }
     Links { first, next }
+}
+
+// The moves chained by either end.
+#[derive(Drop)]
+pub struct Chains {
+    pub leaves: Links,
+    pub enters: Links,
+}
+
+impl Chains {
+    pub fn of(n: usize, moves: &[Move]) -> Chains
+        requires stages { ⌜ n ≤ mostStages ⌝ }
+        requires moves { ⌜ length (now moves) ≤ mostMoves ⌝ }
+        requires within { ⌜ Within n (now moves) ⌝ }
+        ensures { λ r. ⌜ Chains-of n (now (moves .entry)) r ⌝ }
+    {
+        Chains {
+            leaves: chain(End::Leaves, n, moves),
+            enters: chain(End::Enters, n, moves),
+        }
+    }
 }

@@ -10,11 +10,14 @@ ghost use Rattle.program.specs.Meaning.{mostStages};
 ghost use Rattle.program.specs.Graphs.{timedMove};
 ghost use Rattle.tally.specs.Walks.{among};
 ghost use Rattle.settle.specs.declared.links.End.the-variants.{Leaves, Enters};
-ghost use Rattle.settle.specs.Chains.{endAt, Linked};
+ghost use Rattle.settle.specs.Chains.{endAt, Linked, Chains-of};
+ghost use Rattle.settle.specs.Queues.{Lined};
 ghost use Rattle.settle.specs.Rows.{sortOf};
-ghost use Rattle.settle.specs.Removals.{None-from, Outside, Booked, Watching, Due, Removes, Rewatches, Looks-at};
+ghost use Rattle.settle.specs.Removals.{None-from, Outside, Booked, All-stages, Watching, Due, Removes, Removed, Rewatches, Looks-at};
 use crate::endless::Sort;
+use crate::links::Chains;
 use crate::links::Links;
+use crate::queue::Queue;
 use program::MOST_STAGES;
 use program::Move;
 
@@ -43,7 +46,7 @@ fn leads(sort: Sort, m: Move, set: &[u32]) -> bool
 
 impl Removal {
     // No stage is gone yet, and none watches a move.
-    pub fn new(stages: usize) -> Removal
+    fn new(stages: usize) -> Removal
         requires { ⌜ stages ≤ mostStages ⌝ }
         ensures all { λ r. ⌜ r .stages ≡ stages ⌝ }
         ensures booked { λ r. ⌜ ((set : ℕ → Bool) → Booked set r) ⌝ }
@@ -59,7 +62,7 @@ impl Removal {
 
     // Lets a stage watch the next move of its chain, from a link on, that leads into the set. Where there is none the stage
     // is gone.
-    pub fn watch(
+    fn watch(
         &mut self,
         sort: Sort,
         moves: &[Move],
@@ -91,7 +94,7 @@ impl Removal {
     }
 
     // Lets each stage of the set watch a move. Those that cannot are gone.
-    pub fn watch_all(&mut self, sort: Sort, moves: &[Move], leaves: &Links, set: &mut [u32])
+    fn watch_all(&mut self, sort: Sort, moves: &[Move], leaves: &Links, set: &mut [u32])
         requires linked { ⌜ Linked Leaves (now self .stages) (now moves) (now leaves) ⌝ }
         requires room { ⌜ now self .stages ≤ length (now set) ⌝ }
         requires booked { ⌜ Booked (among (now set)) (now self) ⌝ }
@@ -108,7 +111,7 @@ impl Removal {
     }
 
     // The next stage that is gone, at which the moves that enter are to be looked at.
-    pub fn next_gone(&mut self) -> Option<usize>
+    fn next_gone(&mut self) -> Option<usize>
         requires { ⌜ now self .done ≤ now self .count ⌝ ∗ ⌜ now self .count ≤ mostStages ⌝ }
         ensures { λ r. ⌜ Looks-at (now (self .entry)) (now (self .exit)) r ⌝ }
     {
@@ -130,7 +133,7 @@ impl Removal {
     }
 
     // Looks at the moves that enter a stage that is gone: a stage that watches one of them watches another, or is gone.
-    pub fn look(
+    fn look(
         &mut self,
         sort: Sort,
         moves: &[Move],
@@ -159,6 +162,34 @@ impl Removal {
                 self.watch(sort, moves, leaves, stage, leaves.next[k], set);
             }
             link = enters.next[k];
+        }
+    }
+
+    // Removes stages until each that is left has a move of the sort into what is left.
+    pub fn of(sort: Sort, n: usize, moves: &[Move], chains: &Chains, set: &mut [u32]) -> Removal
+        requires chains { ⌜ Chains-of n (now moves) (now chains) ⌝ }
+        requires set { ⌜ n ≤ length (now set) ⌝ }
+        ensures { λ r. ⌜ Removed sort n (now (moves .entry)) (now (set .entry)) (now (set .exit)) r ⌝ }
+    {
+        let mut removal = Removal::new(n);
+        removal.watch_all(sort, moves, &chains.leaves, set);
+        while let Some(gone) = removal.next_gone() {
+            removal.look(sort, moves, &chains.leaves, &chains.enters, gone, set);
+        }
+        removal
+    }
+
+    // Puts the stages that are gone into a queue, in the order in which they went, as far as there is room.
+    pub fn put_gone(&self, queue: &mut Queue)
+        requires gone { ⌜ All-stages (now self) ⌝ }
+        requires few { ⌜ now self .stages ≤ mostStages ⌝ ∗ ⌜ now self .count ≤ mostStages ⌝ }
+        requires lined { ⌜ Lined (now self .stages) (now queue) ⌝ }
+        ensures { λ _. ⌜ Lined (now (self .entry) .stages) (now (queue .exit)) ⌝ }
+    {
+        for i in 0..self.count {
+            if !queue.put(self.gone[i] as usize) {
+                return;
+            }
         }
     }
 }

@@ -11,11 +11,14 @@ ghost use Rattle.tally.specs.Rounds.{entry, Kept-from};
 ghost use Rattle.tally.specs.Sweeps.{In-place, Still, Of-all};
 ghost use Rattle.tally.specs.Tables.{Filled};
 ghost use Rattle.settle.specs.declared.links.End.the-variants.{Enters};
-ghost use Rattle.settle.specs.Chains.{endAt, Linked};
-ghost use Rattle.settle.specs.Queues.{Waits, Orderly, Lined};
+ghost use Rattle.settle.specs.Chains.{endAt, Linked, Chains-of};
+ghost use Rattle.settle.specs.Queues.{Waits, Orderly, Lined, All-wait};
 ghost use Rattle.settle.specs.Tended.{Tended, Due, Still-partly, Settles};
+use crate::endless::Sort;
+use crate::links::Chains;
 use crate::links::Links;
 use crate::queue::Queue;
+use crate::removal::Removal;
 use program::MOST_STAGES;
 use program::Move;
 use tally::Tally;
@@ -122,16 +125,55 @@ fn flow<T: Tally>(
     false
 }
 
+// Divides the stages: those to pass, and the goals that are not to be passed.
+fn divide(n: usize, pass: &[u32], goals: &[u32], inner: &mut [u32], last: &mut [u32])
+    requires rows { ⌜ n ≤ length (now pass) ⌝ ∗ ⌜ n ≤ length (now goals) ⌝ ∗ ⌜ n ≤ length (now inner) ⌝ ∗
+        ⌜ n ≤ length (now last) ⌝ }
+{
+    for s in 0..n {
+        inner[s] = pass[s];
+        if pass[s] == 0 {
+            last[s] = goals[s];
+        }
+    }
+}
+
+// Puts the goals into the queue. Between them it puts the stages from which no walk is endless within the set to pass, each
+// behind all those that its moves enter: so it comes out when what is said of those is settled, and need not come again.
+fn line_up(
+    n: usize,
+    moves: &[Move],
+    chains: &Chains,
+    pass: &[u32],
+    goals: &[u32],
+    queue: &mut Queue,
+) -> bool
+    requires chains { ⌜ Chains-of n (now moves) (now chains) ⌝ }
+    requires pass { ⌜ n ≤ length (now pass) ⌝ }
+    requires goals { ⌜ n ≤ length (now goals) ⌝ }
+    requires lined { ⌜ Lined n (now queue) ⌝ }
+    ensures lined { λ _. ⌜ Lined n (now (queue .exit)) ⌝ }
+    ensures wait { λ r. ⌜ (r ≡ true → All-wait n (among (now (goals .entry))) (now (queue .exit))) ⌝ }
+{
+    let mut inner = [0u32; MOST_STAGES];
+    let mut last = [0u32; MOST_STAGES];
+    divide(n, pass, goals, &mut inner, &mut last);
+    queue.put_all(n, &last);
+    let removal = Removal::of(Sort::Any, n, moves, chains, &mut inner);
+    removal.put_gone(queue);
+    queue.put_all(n, goals)
+}
+
 // Fills the first row by the queue, with the choice over all walks. Answers false where it does not come to that.
 fn by_queue<T: Tally>(
     n: usize,
     moves: &[Move],
-    enters: &Links,
+    chains: &Chains,
     pass: &[u32],
     goals: &[u32],
     table: &mut [T],
 ) -> bool
-    requires linked { ⌜ Linked Enters n (now moves) (now enters) ⌝ }
+    requires chains { ⌜ Chains-of n (now moves) (now chains) ⌝ }
     requires pass { ⌜ n ≤ length (now pass) ⌝ }
     requires goals { ⌜ n ≤ length (now goals) ⌝ }
     requires room { ⌜ n ≤ length (now table) ⌝ }
@@ -141,19 +183,20 @@ fn by_queue<T: Tally>(
 {
     let mut queue = Queue::empty();
     begin_row(0, n, goals, table);
-    queue.put_all(n, goals) && flow(n, moves, enters, pass, table, &mut queue)
+    line_up(n, moves, chains, pass, goals, &mut queue)
+        && flow(n, moves, &chains.enters, pass, table, &mut queue)
 }
 
 // Fills the table with the choices over all walks of at most n moves, which are those over all walks.
 pub fn tally_all<T: Tally>(
     n: usize,
     moves: &[Move],
-    enters: &Links,
+    chains: &Chains,
     pass: &[u32],
     goals: &[u32],
     table: &mut [T],
 )
-    requires linked { ⌜ Linked Enters n (now moves) (now enters) ⌝ }
+    requires chains { ⌜ Chains-of n (now moves) (now chains) ⌝ }
     requires pass { ⌜ n ≤ length (now pass) ⌝ }
     requires goals { ⌜ n ≤ length (now goals) ⌝ }
     requires room { ⌜ 4 * n ≤ length (now table) ⌝ }
@@ -161,7 +204,7 @@ pub fn tally_all<T: Tally>(
     ensures { λ _. ⌜ Filled (T·Tally .algebra) (tallied (T·Tally .algebra) (now (moves .entry))
         (among (now (pass .entry))) (among (now (goals .entry))) n) n (now (table .entry)) (now (table .exit)) ⌝ }
 {
-    if by_queue(n, moves, enters, pass, goals, table) {
+    if by_queue(n, moves, chains, pass, goals, table) {
         clear(n, 4 * n, table);
     } else {
         tallies(n, moves, pass, goals, n as u16, table);

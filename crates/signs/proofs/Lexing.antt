@@ -154,8 +154,7 @@ none-begins b bs f n85 n40 n41 n91 n93 n33 n38 n124 n69 n65 n =
     let e38 : eqb b 38 ≡ false = ne-eqb b 38 n38 in
     let e124 : eqb b 124 ≡ false = ne-eqb b 124 n124 in
     let e69 : eqb b 69 ≡ false = ne-eqb b 69 n69 in
-    let e65 : eqb b 65 ≡ false = ne-eqb b 65 n65 in
-    (
+    let e65 : eqb b 65 ≡ false = ne-eqb b 65 n65 in (
       rw (e85, e48, d, e40, e41, e91, e93, e33, e38, e124, e69, e65) (go (leb 97 b) refl (leb b 112) refl),
       other-more b bs n85 d,
     )

@@ -89,17 +89,17 @@ returns-in-rest-2 c =
     let text = c .skip-spaces-text .result .now in
     let b = getD text 0 0 in
     let digit-not : 48 ≤ b → b ≤ 57 → ⊥ = λ low high. elim (c .in-rest-2 .came) [
-        in-rest-2·by·then-this-lt48 w ↦ omega arith
+      | in-rest-2·by·then-this-lt48 w ↦ omega arith
       | in-rest-2·by·else-this-lt48·else-this-lt58·then-this-lt97 w ↦ omega arith
       | in-rest-2·by·else-this-lt48·else-this-lt58·else-this-lt97·else-this-lt113 w ↦ omega arith
-      ] in
+    ] in
     let letter-not : 97 ≤ b → b ≤ 112 → ⊥ = λ low high. elim (c .in-rest-2 .came) [
-        in-rest-2·by·then-this-lt48 w ↦ omega arith
+      | in-rest-2·by·then-this-lt48 w ↦ omega arith
       | in-rest-2·by·else-this-lt48·else-this-lt58·then-this-lt97 w ↦ omega arith
       | in-rest-2·by·else-this-lt48·else-this-lt58·else-this-lt97·else-this-lt113 w ↦ omega arith
-      ] in
+    ] in
     let p =
-        none-begins b (take (length text - 1) (drop 1 text)) digit-not (λ e. omega arith) (λ e. omega arith) (λ e. omega arith)
-        (λ e. omega arith) (λ e. omega arith) (λ e. omega arith) (λ e. omega arith) (λ e. omega arith) (λ e. omega arith)
-        (λ e. omega arith) letter-not in
+    none-begins b (take (length text - 1) (drop 1 text)) digit-not (λ e. omega arith) (λ e. omega arith) (λ e. omega arith)
+    (λ e. omega arith) (λ e. omega arith) (λ e. omega arith) (λ e. omega arith) (λ e. omega arith) (λ e. omega arith)
+    (λ e. omega arith) letter-not in
     taken b (c .skip-spaces-text .ensures) (omega (arith, ltb-false)) refl (takes Bad 0 p refl refl)

@@ -28,16 +28,16 @@ pub returns-in-rest : need.returns-in-rest
 returns-in-rest c =
     let bs = c .args .rest .now in
     let most : 2 ≤ length bs → getD bs 0 0 ≡ 60 → getD bs 1 0 ≡ 61 → ⊥ = λ l x y. elim (c .in-rest .came) [
-        in-rest·by·then-rest-lt2 w ↦ omega (arith, ltb-true)
+      | in-rest·by·then-rest-lt2 w ↦ omega (arith, ltb-true)
       | in-rest·by·else-rest-lt2·in-60··in-rest· w ↦ omega arith
       | in-rest·by·else-rest-lt2·in-62··in-rest· w ↦ omega arith
       | in-rest·by·else-rest-lt2·in-rest· w ↦ omega arith
-      ] in
+    ] in
     let least : 2 ≤ length bs → getD bs 0 0 ≡ 62 → getD bs 1 0 ≡ 61 → ⊥ = λ l x y. elim (c .in-rest .came) [
-        in-rest·by·then-rest-lt2 w ↦ omega (arith, ltb-true)
+      | in-rest·by·then-rest-lt2 w ↦ omega (arith, ltb-true)
       | in-rest·by·else-rest-lt2·in-60··in-rest· w ↦ omega arith
       | in-rest·by·else-rest-lt2·in-62··in-rest· w ↦ omega arith
       | in-rest·by·else-rest-lt2·in-rest· w ↦ omega arith
-      ] in
+    ] in
     let p = until-plain bs (pair-no 60 61 bs most) (pair-no 62 61 bs least) in
     takes Until 0 p refl refl

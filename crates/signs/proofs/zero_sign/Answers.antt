@@ -18,8 +18,8 @@ pub returns-in-rest : need.returns-in-rest
 returns-in-rest c =
     let bs = c .args .rest .now in
     let none : 1 ≤ length bs → 48 ≤ getD bs 0 0 → getD bs 0 0 ≤ 57 → ⊥ = λ l low high. elim (c .in-rest .came) [
-        in-rest·by·then-rest-lt1 w ↦ omega (arith, ltb-true)
+      | in-rest·by·then-rest-lt1 w ↦ omega (arith, ltb-true)
       | in-rest·by·else-rest-lt1·then-rest-lt48 w ↦ omega arith
       | in-rest·by·else-rest-lt1·else-rest-lt48·else-rest-lt58 w ↦ omega arith
-      ] in
+    ] in
     takes (Number 0) 0 (zero-good bs none) refl refl

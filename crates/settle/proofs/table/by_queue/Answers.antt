@@ -9,37 +9,41 @@ use Rattle.settle.specs.Tended.{Due}
 use Rattle.settle.proofs.Tended.{tended-none, partly-same}
 use Rattle.settle.proofs.table.by_queue.Needs as need
 
-pub put-all-requires : need.put-all-requires
-put-all-requires g c κs =
-    record { few = c .pre .linked .few-stages; set = c .pre .goals; lined = c .empty-queue .ensures (c .args .n) }
+pub line-up-requires : need.line-up-requires
+line-up-requires g c κs = record {
+  chains = c .pre .chains;
+  pass = c .pre .pass;
+  goals = c .pre .goals;
+  lined = c .empty-queue .ensures (c .args .n);
+}
 
 pub flow-requires : need.flow-requires
 flow-requires g c κs =
     let K = g .T·Tally .algebra in
     let moves = c .args .moves .now in
     let goals = among (c .args .goals .now) in
-    let within = c .pre .linked .within in
+    let within = c .pre .chains .enters .within in
     let table = entry K (c .begin-row .last .table) in
     record {
-      linked = c .pre .linked;
+      linked = c .pre .chains .enters;
       pass = c .pre .pass;
       room = omega arith;
-      lined = c .put-all .ensures .lined;
+      lined = c .line-up .ensures .lined;
       tended = tended-none K (g .T·Tally·met .lawful) moves (among (c .args .pass .now)) goals table
-          (Due moves (c .put-all .last .self))
+          (Due moves (c .line-up .last .queue))
           (λ k l. ap table (sym (zero-add _)) ∙ c .begin-row .ensures .written _ (within k l .1))
-          (λ k l t. c .put-all .ensures .wait (c .if-put-all .taken) _ (within k l .1) t);
+          (λ k l t. c .line-up .ensures .wait (c .if-line-up .taken) _ (within k l .1) t);
     }
 
-pub returns-then-put-all : need.returns-then-put-all
-returns-then-put-all g c =
+pub returns-then-line-up : need.returns-then-line-up
+returns-then-line-up g c =
     let K = g .T·Tally .algebra in
     let laws = g .T·Tally·met .lawful in
     let n = c .args .n in
     let moves = c .args .moves .now in
     let pass = among (c .args .pass .now) in
     let goals = among (c .args .goals .now) in
-    let within = c .pre .linked .within in
+    let within = c .pre .chains .enters .within in
     let begun = entry K (c .begin-row .last .table) in
     let begin : (s : ℕ) → s < n → begins K goals s ≡ begun s = λ s l.
     sym (ap begun (sym (zero-add s)) ∙ c .begin-row .ensures .written s l) in

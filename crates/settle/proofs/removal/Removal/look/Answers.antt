@@ -64,7 +64,7 @@ loop-link-again c =
     × Watching sort moves (among ws) (Next q) n q in
     let so : So (c .if-watches .set) (c .if-watches .self) =
     elim (c .if-watches .came) [
-      then-watches w ↦
+      | then-watches w ↦
           let re = w .watch .ensures in
           let after = w .watch .last .set in
           let s = w .watch .last .self in
@@ -76,7 +76,7 @@ loop-link-again c =
                 (λ o. inr (chain-more Enters moves gone link next right j (λ e. ne (ap (endAt Leaves moves) e)) o)))
                 (λ j g. inl g) (λ other l ne t. inv .3 other l t),
           ))
-    | else-watches w ↦
+      | else-watches w ↦
           subst (λ ws. So ws (c .if-watches .self)) (sym (w .set-is))
           (subst (λ q. So was q) (sym (w .self-is)) (
             inv .2,

@@ -24,7 +24,7 @@ loop-stage-again c =
     let So : List ℕ → Removal → Type 0 = λ ws q. Removes sort moves (c .args .set .now) ws (c .args .self .now) q
     × Watching sort moves (among ws) (Due moves q) (stage + 1) q in
     elim (c .if-set-stage-gt0 .came) [
-      then-set-stage-gt0 w ↦
+      | then-set-stage-gt0 w ↦
           let re = w .watch .ensures in
           let after = w .watch .last .set in
           let s = w .watch .last .self in
@@ -34,7 +34,7 @@ loop-stage-again c =
             watching-more sort moves (stage + 1) stage was after r s (Due moves r) (Due moves s) re (λ k ne g. re .gone _ g)
                 (λ k g. g) (λ other l ne t. inv .1 other (omega arith) t),
           ))
-    | else-set-stage-gt0 w ↦
+      | else-set-stage-gt0 w ↦
           subst (λ ws. So ws (c .if-set-stage-gt0 .self)) (sym (w .set-is))
           (subst (λ q. So was q) (sym (w .self-is)) (
             inv .0,
