@@ -16,7 +16,7 @@ join-e [] ys w h = inr h
 join-e (x ∷ xs) ys w (inl e) = inl (inl e)
 join-e (x ∷ xs) ys w (inr h) = ⊎-elim (λ a. inl (inr a)) (λ b. inr b) (join-e xs ys w h)
 
-join-l : {A : Type 0} (xs ys : List A) (w : A) → Has xs w → Has (xs ++ ys) w
+pub join-l : {A : Type 0} (xs ys : List A) (w : A) → Has xs w → Has (xs ++ ys) w
 join-l [] ys w h = absurd h
 join-l (x ∷ xs) ys w (inl e) = inl e
 join-l (x ∷ xs) ys w (inr h) = inr (join-l xs ys w h)

@@ -20,7 +20,7 @@ fn begin<T: Tally>(goals: &[u32], s: usize) -> T
 }
 
 // Writes that for each stage, from the place `at` on.
-fn begin_row<T: Tally>(at: usize, n: usize, goals: &[u32], table: &mut [T])
+pub fn begin_row<T: Tally>(at: usize, n: usize, goals: &[u32], table: &mut [T])
     requires goals { ⌜ n ≤ length (now goals) ⌝ }
     requires room { ⌜ at + n ≤ length (now table) ⌝ }
     ensures written { λ _. ⌜ Written (T·Tally .algebra) at n (begins (T·Tally .algebra) (among (now (goals .entry))))
