@@ -1,5 +1,8 @@
 // Reads a console page from standard input and writes its answers to standard output. What was done is said in one line
 // on standard error.
+
+#![tactic(auto)]
+
 ghost use Rattle.std.specs.Prelude.{◌≤◌, length, IfOk};
 
 use layout::faults::PageFault;

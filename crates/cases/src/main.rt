@@ -1,4 +1,7 @@
 // Runs the pages of data/, by the names that the arguments give, and compares each answer with the one that is due.
+
+#![tactic(auto)]
+
 use std::io::Write;
 use std::{env, fs};
 

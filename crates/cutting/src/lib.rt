@@ -1,5 +1,8 @@
 // Cutting changes no verdict: a line holds at the same stages before and after a cut or a join, and minute by minute.
 // Theory only: each function states a theorem by its contract. Rests on the refinement of timed graphs in `tctl`.
+
+#![tactic(auto)]
+
 ghost use Rattle.cutting.specs.Theorems.{RefinedAlike, MinuteRefines, CutRefines, JoinRefines};
 ghost use Rattle.cutting.specs.Theorems.{SameVerdicts, EditsTidy};
 

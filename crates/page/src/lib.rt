@@ -1,6 +1,9 @@
 // The console page: `answer` is a function from the bytes of a page to the bytes of its answers. The page is laid into
 // a tray, and each of its rules is checked on what the tray then holds. Rests on the layout of a page, on the check and
 // on the tray, and, below them, on programs, rules and the theory of runs.
+
+#![tactic(auto)]
+
 mod answers;
 pub mod faults;
 pub mod pages;

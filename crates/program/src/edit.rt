@@ -32,11 +32,11 @@ impl Edit {
     // Makes the edit on a store.
     pub fn make<S: Store>(self, store: &mut S) -> Result<usize, EditFault>
         ensures does { Tidy (S.Program.meaning store.old)
-            → Does (step (room store.old) (S.Program.meaning store.old) self) result
+            → Does (step (S.room store.old) (S.Program.meaning store.old) self) result
             (S.Program.meaning store.new) }
         ensures tidy { StaysTidy (S.Program.meaning store.old)
             (S.Program.meaning store.new) }
-        ensures kept { room store.new ≡ room store.old }
+        ensures kept { S.room store.new ≡ S.room store.old }
     {
         match self {
             Edit::Open { marks } => store.open(marks),

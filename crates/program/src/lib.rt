@@ -1,5 +1,8 @@
 // Programs of stages and moves: what they are made of, how any of them is read, and how a store of one is edited.
 // Rests on the timed graphs of `tctl`, to which a program's two lists are taken.
+
+#![tactic(auto)]
+
 ghost use Rattle.std.specs.Prelude.{◌≡◌, ℕ, ◌≤◌, length};
 ghost use Rattle.program.specs.Meaning.{Prog, Limits, stage_at, move_at, most_stages, most_moves};
 ghost use Rattle.program.specs.Edits.{Caps, Does, open_step, mark_step, lay_step, cut_step, join_step, fault_number};

@@ -1,5 +1,8 @@
 // Reads the text of a rule into its lines, or says why it is none. Rests on the signs of a text (`signs`) and on the
 // lines of a rule (`rules`).
+
+#![tactic(auto)]
+
 ghost use Rattle.std.specs.Prelude.{◌≡◌};
 ghost use Rattle.reader.specs.Reads.{Ends, first_fault};
 ghost use Rattle.reader.specs.Answer.{fault_number, Answers, OneReading, OneAnswer};

@@ -1,4 +1,7 @@
 // Rules as lists of lines: what the reader gives and the check takes. Rests on the rule trees of `tctl`.
+
+#![tactic(auto)]
+
 ghost use Rattle.rules.specs.Postorder.{LinesStand, LinesTell};
 
 pub mod line;

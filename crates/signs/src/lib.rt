@@ -1,4 +1,7 @@
 // Cuts the text of a rule into signs, one at a time. Any bytes may stand in a text: what begins no sign is a bad one.
+
+#![tactic(auto)]
+
 ghost use Rattle.std.specs.Prelude.{◌≡◌, ℕ, ◌+◌, ◌-◌, ◌*◌, ◌<◌, ◌≤◌, drop, MatchBool};
 ghost use Rattle.signs.specs.Signs.{run, value, cap, zero_sign, plain_sign};
 ghost use Rattle.signs.specs.First.{Skipped, Takes, First, After, FirstNumber};

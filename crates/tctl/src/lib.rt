@@ -1,5 +1,8 @@
 // The theory of timed graphs: runs, rules, when a rule holds, a checker that computes, and refinement.
 // Pure: each function states a theorem and its proof is the function's only content. Rests on nothing.
+
+#![tactic(auto)]
+
 ghost use Rattle.tctl.specs.Theorems.{CheckerRight, RefinementKeeps, TestRight, CapCuts};
 ghost use Rattle.tctl.specs.Theorems.{EndlessIsGreatest};
 

@@ -1,5 +1,8 @@
 // Reads the texts of a file and holds what the reader gives against what the file says: a text stands in one line, its
 // rule's lines, or `refused=` and the number, in the next. In a text, `\xNN` is the byte of that number.
+
+#![tactic(auto)]
+
 use rules::line::{Bound, Line, Quantifier};
 use std::alloc::{AllocError, Global};
 use std::{env, fs};

@@ -1,4 +1,7 @@
 // The check behind a C interface: a static library for the benchmark in bench/, which calls it from Rust.
+
+#![tactic(auto)]
+
 ghost use Rattle.std.specs.Prelude.{◌≤◌, IfOk};
 
 use check::check;
