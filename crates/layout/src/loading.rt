@@ -46,9 +46,9 @@ pub fn next_line(bytes: &[u8], part: Part) -> Option<(PageLine<'_>, &[u8])>
 // Does what a line says to the store; a rule says nothing to it.
 fn edit<S: Store>(store: &mut S, line: PageLine) -> Result<(), EditFault>
     ensures does { Edited
-        (edit_step (room store.old) (S.Program.meaning store.old) (line_of line.entry))
+        (edit_step (S.room store.old) (S.Program.meaning store.old) (line_of line.entry))
         result (S.Program.meaning store.new) }
-    ensures kept { room store.new ≡ room store.old }
+    ensures kept { S.room store.new ≡ S.room store.old }
 {
     match line {
         PageLine::Stage { marks } => {
@@ -68,7 +68,7 @@ fn edit<S: Store>(store: &mut S, line: PageLine) -> Result<(), EditFault>
 
 // Loads the stages and moves of a page into the store, and gives the lines from the first rule on.
 pub fn load<'a, S: Store>(store: &mut S, page: &'a [u8]) -> Result<&'a [u8], PageFault>
-    ensures { Loads (room store.old) (S.Program.meaning store.old) page.now
+    ensures { Loads (S.room store.old) (S.Program.meaning store.old) page.now
         result (S.Program.meaning store.new) }
 {
     if page.len() > MOST_BYTES {

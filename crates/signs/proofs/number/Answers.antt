@@ -3,7 +3,7 @@ use Rattle.std.proofs.lemmas.List.{take_rest}
 use Rattle.signs.specs.Signs.{value, run, cap}
 use Rattle.signs.proofs.Lexing.{value_more, run_more, no_digit}
 use Rattle.signs.proofs.number.Goals as goal
-use Rattle.signs.proofs.number.Goals.{in-default, in-len1-up+in-default-2, in-len1-up+in-default-2·2}
+use Rattle.signs.proofs.number.Goals.{in_default, in-len1-up+in_default-2, in-len1-up+in-default-2·2}
 
 pub loop-text-preserved : goal.loop-text-preserved
 loop-text-preserved c =
@@ -11,8 +11,8 @@ loop-text-preserved c =
     let l : 1 ≤ length t = omega (arith, ltb-false) in
     let low : 48 ≤ get_or t 0 0 = omega arith in
     let high : get_or t 0 0 ≤ 57 = omega arith in (
-      ap (λ xs. cap (value c.with-digit-value.result xs)) (take_rest t 1) ∙ ap (λ v. cap (value v (drop 1 t)))
-          c.with-digit-value.ensures ∙ value_more c.loop-text.value t l low high ∙ c.loop-text.invariant.0,
+      ap (λ xs. cap (value c.with_digit-value.result xs)) (take_rest t 1) ∙ ap (λ v. cap (value v (drop 1 t)))
+          c.with_digit-value.ensures ∙ value_more c.loop-text.value t l low high ∙ c.loop-text.invariant.0,
       ap (λ xs. drop (run xs) xs) (take_rest t 1) ∙ run_more t l low high ∙ c.loop-text.invariant.1,
       omega arith,
     )
@@ -22,9 +22,9 @@ returns c =
     let t = c.loop-text.text.now in
     let no : 1 ≤ length t → 48 ≤ get_or t 0 0 → get_or t 0 0 ≤ 57 → ⊥ =
     λ l low high. elim c.if-text-lt1.branch [
-      | in-default w ↦ omega
+      | in_default w ↦ omega
           (arith, ltb-true)
-      | in-len1-up+in-default-2 w ↦ omega arith
+      | in-len1-up+in_default-2 w ↦ omega arith
       | in-len1-up+in-default-2·2 w ↦ omega arith
     ] in
     let fits : c.loop-text.value ≡ cap c.loop-text.value = omega (arith, c.loop-text.invariant.2) in

@@ -21,16 +21,16 @@ returns-in-62 c =
     let p = until_least bs (pair_no 60 61 bs (λ l x y. omega arith)) (pair_yes 62 61 bs two first (omega arith)) in
     takes UntilAtLeast 2 p refl (take_rest bs 2)
 
-pub returns-in-default : goal.returns-in-default
-returns-in-default c =
+pub returns-in_default : goal.returns-in_default
+returns-in_default c =
     let bs = c.args.rest.now in
-    let most : 2 ≤ length bs → get_or bs 0 0 ≡ 60 → get_or bs 1 0 ≡ 61 → ⊥ = λ l x y. elim c.in-default.branch [
+    let most : 2 ≤ length bs → get_or bs 0 0 ≡ 60 → get_or bs 1 0 ≡ 61 → ⊥ = λ l x y. elim c.in_default.branch [
       | in-default-via-then-rest-lt2 w ↦ omega (arith, ltb-true)
       | in-default-via-else-rest-lt2+in-60·+in-default· w ↦ omega arith
       | in-default-via-else-rest-lt2+in-62·+in-default· w ↦ omega arith
       | in-default-via-else-rest-lt2+in-default· w ↦ omega arith
     ] in
-    let least : 2 ≤ length bs → get_or bs 0 0 ≡ 62 → get_or bs 1 0 ≡ 61 → ⊥ = λ l x y. elim c.in-default.branch [
+    let least : 2 ≤ length bs → get_or bs 0 0 ≡ 62 → get_or bs 1 0 ≡ 61 → ⊥ = λ l x y. elim c.in_default.branch [
       | in-default-via-then-rest-lt2 w ↦ omega (arith, ltb-true)
       | in-default-via-else-rest-lt2+in-60·+in-default· w ↦ omega arith
       | in-default-via-else-rest-lt2+in-62·+in-default· w ↦ omega arith

@@ -5,16 +5,16 @@ use Rattle.layout.proofs.Readings.{no_move_line, rule_text}
 use Rattle.layout.proofs.line.read_line.Goals as goal
 use Rattle.std.proofs.lemmas.Bool.Decides.{Decides-eqb}
 
-pub returns-in-err-leaves : goal.returns-in-err-leaves
-returns-in-err-leaves c =
-    let h = strip_prefix_is Decides-eqb c.args.line.now (codes "move=") c.strip-prefix-2.result
-    c.strip-prefix-2.ensures.cases in
-    rw c.from-residual-in-err-leaves.ensures
-    (no_move_line (MatchOption-at_some _ _ c.in-Some-strip-prefix.text c.in-Some-strip-prefix.is h)
-    c.in-err-leaves.ensures)
+pub returns-in_err-leaves : goal.returns-in_err-leaves
+returns-in_err-leaves c =
+    let h = strip_prefix_is Decides-eqb c.args.line.now (codes "move=") c.strip_prefix-2.result
+    c.strip_prefix-2.ensures.cases in
+    rw c.from_residual-in_err-leaves.ensures
+    (no_move_line (MatchOption-at_some _ _ c.in-Some-strip_prefix.text c.in-Some-strip_prefix.is h)
+    c.in_err-leaves.ensures)
 
 pub returns : goal.returns
 returns c =
-    let h = strip_prefix_is Decides-eqb c.args.line.now (codes "rule=") c.strip-prefix-3.result
-    c.strip-prefix-3.ensures.cases in
-    rule_text c.requires (MatchOption-at_some _ _ c.in-ok-text.text c.in-ok-text.was h)
+    let h = strip_prefix_is Decides-eqb c.args.line.now (codes "rule=") c.strip_prefix-3.result
+    c.strip_prefix-3.ensures.cases in
+    rule_text c.requires (MatchOption-at_some _ _ c.in_ok-text.text c.in_ok-text.was h)

@@ -6,8 +6,8 @@ use Rattle.layout.proofs.Loads.{at_start, few_lines, rule-more, other-more, page
 use Rattle.layout.proofs.Loads.{shorter, is_part, not_part}
 use Rattle.layout.proofs.loading.load.Goals as goal
 
-pub overflow-add-number : goal.overflow-add-number
-overflow-add-number g c = omega (arith, few_lines c.loop-rest.invariant.1)
+pub overflow_add-number : goal.overflow_add-number
+overflow_add-number g c = omega (arith, few_lines c.loop-rest.invariant.1)
 
 pub loop-rest-init : goal.loop-rest-init
 loop-rest-init g c = (
@@ -22,11 +22,11 @@ loop-rest-preserved-then-ne g c =
     let l = line_of c.in-Some.line in
     let next = c.in-Some.ensures in
     let does = subst (λ x. Edited (edit_step x (m c.loop-rest.store) l) (Ok tt) (m c.edit.new.store))
-    c.loop-rest.invariant.0 c.in-default-edit.ensures.does in (
+    c.loop-rest.invariant.0 c.in_default-edit.ensures.does in (
       c.edit.ensures.kept ∙ c.loop-rest.invariant.0,
-      other-more c.loop-rest.invariant.1 l c.in-Some.after.now c.part-of-part.result (m c.edit.new.store)
-          next.0 next.1 does c.part-of-part.ensures
-          (not_part c.part-of-part.result Rules c.ne.result c.ne.ensures c.if-ne.true),
+      other-more c.loop-rest.invariant.1 l c.in-Some.after.now c.part_of-part.result (m c.edit.new.store)
+          next.0 next.1 does c.part_of-part.ensures
+          (not_part c.part_of-part.result Rules c.ne.result c.ne.ensures c.if-ne.true),
     )
 
 pub loop-rest-preserved : goal.loop-rest-preserved
@@ -35,11 +35,11 @@ loop-rest-preserved g c =
     let l = line_of c.in-Some.line in
     let next = c.in-Some.ensures in
     let does = subst (λ x. Edited (edit_step x (m c.loop-rest.store) l) (Ok tt) (m c.edit.new.store))
-    c.loop-rest.invariant.0 c.in-default-edit.ensures.does in (
+    c.loop-rest.invariant.0 c.in_default-edit.ensures.does in (
       c.edit.ensures.kept ∙ c.loop-rest.invariant.0,
-      rule-more c.loop-rest.invariant.1 l c.in-Some.after.now c.part-of-part.result (m c.edit.new.store)
-          next.0 next.1 does c.part-of-part.ensures
-          (is_part c.part-of-part.result Rules c.ne.result c.ne.ensures c.if-ne.false),
+      rule-more c.loop-rest.invariant.1 l c.in-Some.after.now c.part_of-part.result (m c.edit.new.store)
+          next.0 next.1 does c.part_of-part.ensures
+          (is_part c.part_of-part.result Rules c.ne.result c.ne.ensures c.if-ne.false),
     )
 
 pub loop-rest-smaller-then-ne : goal.loop-rest-smaller-then-ne
@@ -61,6 +61,6 @@ returns-in-Err g c =
     (subst (λ x. Edited (edit_step x (m c.loop-rest.store) l) (Err c.in-Err.fault) (m c.edit.new.store))
     c.loop-rest.invariant.0 c.in-Err.ensures.does)
 
-pub returns-in-default : goal.returns-in-default
-returns-in-default g c =
-    breaks-form c.loop-rest.invariant.1 (omega arith) (omega arith) c.in-default.ensures
+pub returns-in_default : goal.returns-in_default
+returns-in_default g c =
+    breaks-form c.loop-rest.invariant.1 (omega arith) (omega arith) c.in_default.ensures

@@ -12,7 +12,7 @@ loop-m-preserved g c =
     let laws = g.met.T.Tally.lawful in
     let n = c.args.n in
     let xs = c.loop-m.table in
-    let ys = c.pour-one.new.table in
+    let ys = c.pour_one.new.table in
     let moves = c.args.moves.now in
     let was = λ (t : ℕ). get_or c.args.table.now t K.none in
     let pass = among c.args.pass.now in
@@ -25,16 +25,16 @@ loop-m-preserved g c =
           subst (λ (z : ℕ). get_or ys (n + z) K.none ≡ cond (pass z)
           (K.choice (get_or xs (n + z) K.none) (K.before m.minutes (was m.enters)))
           (get_or xs (n + z) K.none)) e
-          (c.pour-one.ensures.poured
+          (c.pour_one.ensures.poured
           ∙ ap (λ z. cond (pass m.leaves) (K.choice (get_or xs (n + m.leaves) K.none)
           (K.before m.minutes z)) (get_or xs (n + m.leaves) K.none))
           (c.loop-m.invariant.1 m.enters within.1)))
-          (λ ne. c.pour-one.ensures.others (n + s) (λ e. ne (omega arith)))
+          (λ ne. c.pour_one.ensures.others (n + s) (λ e. ne (omega arith)))
           ∙ ap (K.choice (get_or xs (n + s) K.none)) (sym (at_drop_more (λ (ms : _). rest K laws pass was ms s)
           moves i _ c.loop-m-test.true))
           ∙ c.loop-m.invariant.0 s h),
-      (λ j h. c.pour-one.ensures.others j (λ e. omega arith) ∙ c.loop-m.invariant.1 j h),
-      (λ j h. c.pour-one.ensures.others j (λ e. omega (arith, within.0)) ∙ c.loop-m.invariant.2 j h),
+      (λ j h. c.pour_one.ensures.others j (λ e. omega arith) ∙ c.loop-m.invariant.1 j h),
+      (λ j h. c.pour_one.ensures.others j (λ e. omega (arith, within.0)) ∙ c.loop-m.invariant.2 j h),
     )
 
 pub returns : goal.returns

@@ -7,8 +7,8 @@ use Rattle.tally.proofs.rows.repeat.Goals as goal
 pub loop-done-init : goal.loop-done-init
 loop-done-init g c =
     let K = g.T.Tally.algebra in
-    let begun = c.begin-row.new.table in
-    ((λ s h. ap (λ x. get_or begun x K.none) (sym (zero-add s)) ∙ c.begin-row.ensures.written s h), (λ i h. refl))
+    let begun = c.begin_row.new.table in
+    ((λ s h. ap (λ x. get_or begun x K.none) (sym (zero-add s)) ∙ c.begin_row.ensures.written s h), (λ i h. refl))
 
 pub loop-done-preserved : goal.loop-done-preserved
 loop-done-preserved g c =
@@ -17,7 +17,7 @@ loop-done-preserved g c =
     let moves = c.args.moves.now in
     let pass = among c.args.pass.now in
     let goals = among c.args.goals.now in
-    let i = c.loop-done.-done in
+    let i = c.loop-done._done in
     let was = λ (t : ℕ). get_or c.loop-done.table t K.none in (
       (λ s h.
           c.turn.ensures.next s h ∙ round_same K n moves c.requires.within pass goals was
@@ -33,7 +33,7 @@ returns-then-turn g c =
     let moves = c.args.moves.now in
     let pass = among c.args.pass.now in
     let goals = among c.args.goals.now in
-    let i = c.loop-done.-done in
+    let i = c.loop-done._done in
     let was = λ (t : ℕ). get_or c.loop-done.table t K.none in
     let told = c.turn.ensures.told c.if-turn.true in
     record {
@@ -44,7 +44,7 @@ returns-then-turn g c =
           ∙ round_same K n moves c.requires.within pass goals was (rounds K moves pass goals i)
           c.loop-done.invariant.0 t)
           c.args.k (omega arith) s h;
-      above = λ j h. c.turn.ensures.above j h ∙ c.loop-done.invariant.1 j h ∙ c.begin-row.ensures.above j
+      above = λ j h. c.turn.ensures.above j h ∙ c.loop-done.invariant.1 j h ∙ c.begin_row.ensures.above j
           (omega arith);
     }
 
@@ -54,9 +54,9 @@ returns g c =
     let moves = c.args.moves.now in
     let pass = among c.args.pass.now in
     let goals = among c.args.goals.now in
-    let i = c.loop-done.-done in
+    let i = c.loop-done._done in
     let e : i ≡ c.args.k = omega arith in
     record {
       results = λ s h. c.loop-done.invariant.0 s h ∙ ap (λ x. rounds K moves pass goals x s) e;
-      above = λ j h. c.loop-done.invariant.1 j h ∙ c.begin-row.ensures.above j (omega arith);
+      above = λ j h. c.loop-done.invariant.1 j h ∙ c.begin_row.ensures.above j (omega arith);
     }

@@ -10,11 +10,11 @@ returns g c =
     let n = c.args.n in
     let moves = c.args.moves.now in
     let pass = among c.args.pass.now in
-    let one = c.begin-row.ensures in
+    let one = c.begin_row.ensures in
     let two = c.pour.ensures in
     let three = c.settle.ensures in
     let was = λ (t : ℕ). get_or c.args.table.now t K.none in
-    let begun = λ (t : ℕ). get_or c.begin-row.new.table t K.none in
+    let begun = λ (t : ℕ). get_or c.begin_row.new.table t K.none in
     record {
       next = λ s h.
           three.copied s h ∙ two.poured s h

@@ -12,4 +12,4 @@ returns g c =
     ext_get_or no_move (take (length ys) xs) ys same
     (λ i h.
     let l : i < length ys = omega arith in
-    get_or-take (length ys) xs i no_move l ∙ c.loop-k.invariant i (omega (arith, c.move-count-k-end.ensures)))
+    get_or-take (length ys) xs i no_move l ∙ c.loop-k.invariant i (omega (arith, c.move_count-k-end.ensures)))
