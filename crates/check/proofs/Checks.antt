@@ -55,12 +55,12 @@ module _ (text : List ℕ) where
       small_large (lines_of b.1.0) (same_lines Small a.1.0 b.1.0 a.1.1 b.1.1 a.1.2) b.1.2
   one_fault TooManyLines TooManyLines a b = refl
 
-  not-read : {A : Type 0} (e : ReadFault) → reader.Refused text e → (rule : Rule) → Reads text rule → A
-  not-read TooLong a rule r = absurd (omega (arith, a, r.short))
-  not-read NotARule a rule r = absurd (a.1 rule r.reading)
-  not-read NumberTooLarge a rule r =
+  not_read : {A : Type 0} (e : ReadFault) → reader.Refused text e → (rule : Rule) → Reads text rule → A
+  not_read TooLong a rule r = absurd (omega (arith, a, r.short))
+  not_read NotARule a rule r = absurd (a.1 rule r.reading)
+  not_read NumberTooLarge a rule r =
       small_large (lines_of a.1.0) (same_lines Small rule a.1.0 r.reading a.1.1 r.small) a.1.2
-  not-read TooManyLines a rule r =
+  not_read TooManyLines a rule r =
       let few = same_lines (λ ls. length ls ≤ most_lines) rule a.1.0 r.reading a.1.1 r.few in
       absurd (omega (arith, few, a.1.3))
 
@@ -87,8 +87,8 @@ module _ (text : List ℕ) where
     both_ways : (a b : Memory) (r q : Result ℕ CheckFault) → Split a r → Split b q → answer_number r ≡ answer_number q
     both_ways a b r q (inl x) (inl y) =
         ap answer_number x.1 ∙ one_fault x.0 y.0 x.2 y.2 ∙ ap answer_number (sym y.1)
-    both_ways a b r q (inl x) (inr y) = not-read x.0 x.2 y.0 y.1
-    both_ways a b r q (inr x) (inl y) = not-read y.0 y.2 x.0 x.1
+    both_ways a b r q (inl x) (inr y) = not_read x.0 x.2 y.0 y.1
+    both_ways a b r q (inr x) (inl y) = not_read y.0 y.2 x.0 x.1
     both_ways a b r q (inr x) (inr y) = one_answer (lines_of x.0) (lines_of y.0) a b r q x.2 y.2
 
 pub outcomes_exclusive_lem : OutcomesExclusive

@@ -19,9 +19,9 @@ module _ (S : ℕ → Bool) where
   Ahead ms s = (m : Move) × Has ms m × (m.leaves ≡ s) × (m.minutes ≡ 0) × T (S m.enters)
       × (m.enters ≡ ahead ms S s)
 
-  ahead-ok : (ms : List Move) (s k : ℕ) → k < length ms → T (meets S (get_or ms k no_move) s) → Ahead ms s
-  ahead-ok [] s k l t = absurd (not-suc-le-zero l)
-  ahead-ok (m ∷ ms) s zero l t = here (meets S m s) refl t
+  ahead_ok : (ms : List Move) (s k : ℕ) → k < length ms → T (meets S (get_or ms k no_move) s) → Ahead ms s
+  ahead_ok [] s k l t = absurd (not-suc-le-zero l)
+  ahead_ok (m ∷ ms) s zero l t = here (meets S m s) refl t
     where
       here : (b : Bool) → b ≡ meets S m s → T b → (x : Move) × Has (m ∷ ms) x × (x.leaves ≡ s) × (x.minutes ≡ 0)
           × T (S x.enters) × (x.enters ≡ cond b m.enters (ahead ms S s))
@@ -38,7 +38,7 @@ module _ (S : ℕ → Bool) where
             refl,
           )
       here false e t = absurd t
-  ahead-ok (m ∷ ms) s (suc k) l t = go (meets S m s) refl (ahead-ok ms s k (omega arith) t)
+  ahead_ok (m ∷ ms) s (suc k) l t = go (meets S m s) refl (ahead_ok ms s k (omega arith) t)
     where
       go : (b : Bool) → b ≡ meets S m s → Ahead ms s → (x : Move) × Has (m ∷ ms) x × (x.leaves ≡ s)
           × (x.minutes ≡ 0) × T (S x.enters) × (x.enters ≡ cond b m.enters (ahead ms S s))
@@ -63,7 +63,7 @@ module _ (S : ℕ → Bool) where
     It i = steps (ahead moves S) i s
 
     next : (x : ℕ) → T (S x) → Ahead moves x
-    next x t = let o = on x t in ahead-ok moves x o.0 o.1 o.2
+    next x t = let o = on x t in ahead_ok moves x o.0 o.1 o.2
 
     pub stays : (i : ℕ) → T (S (It i))
     stays zero = start
@@ -89,8 +89,8 @@ module _ (S : ℕ → Bool) where
     shift a b zero e = ap It (add-zero a) ∙ e ∙ ap It (sym (add-zero b))
     shift a b (suc t) e = ap It (add-suc a t) ∙ ap (ahead moves S) (shift a b t e) ∙ ap It (sym (add-suc b t))
 
-    pub goes-round : (w : List Move) × (0 < length w) × StillWalk moves (It n) w (It n)
-    goes-round =
+    pub goes_round : (w : List Move) × (0 < length w) × StillWalk moves (It n) w (It n)
+    goes_round =
         let twice = pigeon n It (λ i. below (It i) (stays i)) in
         let i = twice.0 in
         let k = twice.1 in
@@ -124,11 +124,11 @@ module _ (S : ℕ → Bool) (moves : List Move) (i s : ℕ) (h : i < length move
   opened : ahead (drop i moves) S s ≡ cond (meets S here s) here.enters (ahead (drop (i + 1) moves) S s)
   opened = at_drop_more (λ (ms : List Move). ahead ms S s) moves i no_move h
 
-  pub ahead-here : meets S here s ≡ true → ahead (drop i moves) S s ≡ here.enters
-  ahead-here e = opened ∙ cond-true (meets S here s) here.enters (ahead (drop (i + 1) moves) S s) e
+  pub ahead_here : meets S here s ≡ true → ahead (drop i moves) S s ≡ here.enters
+  ahead_here e = opened ∙ cond-true (meets S here s) here.enters (ahead (drop (i + 1) moves) S s) e
 
-  pub ahead-later : meets S here s ≡ false → ahead (drop i moves) S s ≡ ahead (drop (i + 1) moves) S s
-  ahead-later e = opened ∙ cond-false (meets S here s) here.enters (ahead (drop (i + 1) moves) S s) e
+  pub ahead_later : meets S here s ≡ false → ahead (drop i moves) S s ≡ ahead (drop (i + 1) moves) S s
+  ahead_later e = opened ∙ cond-false (meets S here s) here.enters (ahead (drop (i + 1) moves) S s) e
 
 -- A cycle, from the next of its stages.
 

@@ -11,42 +11,42 @@ use Rattle.check.specs.Faults.{fault_number}
 use Rattle.check.specs.Outcomes.{Onward, AllOnward, Cycle, Checkable, Memory, Enough, Accepted, Refused}
 use Rattle.check.specs.Found.{enough?, ahead, steps}
 use Rattle.check.specs.Theorems.{OutcomesComplete}
-use Rattle.check.proofs.Finds.{enough-if, short-if, rests, cycle-if, no-cycle}
+use Rattle.check.proofs.Finds.{enough_if, short_if, rests, cycle_if, no_cycle}
 
 module _ (p : Prog) (was : Memory) where
   abbrev n : ℕ
   n = length p.stages
 
   -- no stage, and yet one
-  none-some : {A : Type 0} (s : ℕ) → n ≡ 0 → s < n → A
-  none-some s e l = absurd (not-suc-le-zero (subst (λ x. s < x) e l))
+  none_some : {A : Type 0} (s : ℕ) → n ≡ 0 → s < n → A
+  none_some s e l = absurd (not-suc-le-zero (subst (λ x. s < x) e l))
 
   pub one_number : (e d : CheckFault) → Refused p was e → Refused p was d → fault_number e ≡ fault_number d
   one_number (Text e) d a b = absurd a
   one_number NoStage (Text e) a b = absurd b
   one_number NoStage NoStage a b = refl
-  one_number NoStage (DeadEnd s) a b = none-some s a b.stage
-  one_number NoStage (StillCycle s) a b = none-some s a b.1
-  one_number NoStage ShortMemory a b = none-some 0 a b.0.some
+  one_number NoStage (DeadEnd s) a b = none_some s a b.stage
+  one_number NoStage (StillCycle s) a b = none_some s a b.1
+  one_number NoStage ShortMemory a b = none_some 0 a b.0.some
   one_number (DeadEnd s) (Text e) a b = absurd b
-  one_number (DeadEnd s) NoStage a b = none-some s b a.stage
+  one_number (DeadEnd s) NoStage a b = none_some s b a.stage
   one_number (DeadEnd s) (DeadEnd t) a b = refl
   one_number (DeadEnd s) (StillCycle t) a b = absurd (a.ends (b.0 s a.stage))
   one_number (DeadEnd s) ShortMemory a b = absurd (a.ends (b.0.onward s a.stage))
   one_number (StillCycle s) (Text e) a b = absurd b
-  one_number (StillCycle s) NoStage a b = none-some s b a.1
+  one_number (StillCycle s) NoStage a b = none_some s b a.1
   one_number (StillCycle s) (DeadEnd t) a b = absurd (b.ends (a.0 t b.stage))
   one_number (StillCycle s) (StillCycle t) a b = refl
   one_number (StillCycle s) ShortMemory a b = absurd (b.0.moving s a.2)
   one_number ShortMemory (Text e) a b = absurd b
-  one_number ShortMemory NoStage a b = none-some 0 b a.0.some
+  one_number ShortMemory NoStage a b = none_some 0 b a.0.some
   one_number ShortMemory (DeadEnd t) a b = absurd (b.ends (a.0.onward t b.stage))
   one_number ShortMemory (StillCycle t) a b = absurd (a.0.moving t b.2)
   one_number ShortMemory ShortMemory a b = refl
 
   pub not_made : (e : CheckFault) → Refused p was e → Accepted p was → ⊥
   not_made (Text e) a b = a
-  not_made NoStage a b = none-some 0 a b.0.some
+  not_made NoStage a b = none_some 0 a b.0.some
   not_made (DeadEnd s) a b = a.ends (b.0.onward s a.stage)
   not_made (StillCycle s) a b = b.0.moving s a.2
   not_made ShortMemory a b = a.1 b.1
@@ -86,7 +86,7 @@ onward? (m ∷ ms) s = go (cases_eq m.leaves s) (onward? ms s)
     go (inr d) (inr none) = inr (neither d none)
 
 room? : (n : ℕ) (m : Memory) → Enough n m ⊎ (Enough n m → ⊥)
-room? n m = ⊎_elim (λ t. inl (enough-if n m t)) (λ f. inr (short-if n m f)) (cases_Bool (enough? n m))
+room? n m = ⊎_elim (λ t. inl (enough_if n m t)) (λ f. inr (short_if n m f)) (cases_Bool (enough? n m))
 
 module _ (p : Prog) (limits : Limits p) (was : Memory) where
   abbrev Answer : Type 0
@@ -98,33 +98,33 @@ module _ (p : Prog) (limits : Limits p) (was : Memory) where
   abbrev rest? : ℕ → Bool
   rest? s = rests p.stages p.moves within s
 
-  by-memory : 0 < length p.stages → AllOnward p → ((s : ℕ) → Cycle p s → ⊥) → Answer
-  by-memory some onward moving =
+  by_memory : 0 < length p.stages → AllOnward p → ((s : ℕ) → Cycle p s → ⊥) → Answer
+  by_memory some onward moving =
       let can : Checkable p = record { some = some; onward = onward; moving = moving } in
       ⊎_elim (λ e. inl (can, e)) (λ short. inr (ShortMemory, (can, short))) (room? (length p.stages) was)
 
-  by-cycle : 0 < length p.stages → AllOnward p → Answer
-  by-cycle some onward =
+  by_cycle : 0 < length p.stages → AllOnward p → Answer
+  by_cycle some onward =
       ⊎_elim
       (λ o.
       let r = steps (ahead p.moves rest?) (length p.stages) o.0 in
-      let c = cycle-if p.stages p.moves within rest? (λ x h. refl) o.0 o.1 (is_true (rest? o.0) o.2)
+      let c = cycle_if p.stages p.moves within rest? (λ x h. refl) o.0 o.1 (is_true (rest? o.0) o.2)
       r refl in
       inr (StillCycle r, (onward, c.0, c.1)))
       (λ none.
-      by-memory some onward
-      (no-cycle p.stages p.moves within
+      by_memory some onward
+      (no_cycle p.stages p.moves within
       (λ s l. ⊎_elim (λ t. absurd (none s l (subst (λ (b : Bool). T b) (sym t) tt))) (λ f. f) (cases_Bool (rest? s)))))
       (find rest? (length p.stages))
 
-  by-dead-end : 0 < length p.stages → Answer
-  by-dead-end some =
-      ⊎_elim (by-cycle some)
+  by_dead_end : 0 < length p.stages → Answer
+  by_dead_end some =
+      ⊎_elim (by_cycle some)
       (λ o. inr (DeadEnd o.0, record { stage = o.1; ends = o.2; lowest = o.3 }))
       (lowest (Onward p) (onward? p.moves) (length p.stages))
 
   answer : Answer
-  answer = ⊎_elim by-dead-end (λ none. inr (NoStage, omega (arith, none))) (cases_lt 0 (length p.stages))
+  answer = ⊎_elim by_dead_end (λ none. inr (NoStage, omega (arith, none))) (cases_lt 0 (length p.stages))
 
 pub outcomes_complete_lem : OutcomesComplete
 outcomes_complete_lem p limits was = answer p limits was

@@ -53,23 +53,23 @@ module _ (es : List ℕ) (up : Rising es) where
   abbrev pub makes : ℕ → ℕ → Move → List Move
   makes n k m = made_by (between k) m (n + entry es k)
 
-  pub length-table : (n k j : ℕ) (ms : List Move) → j ≡ k + length ms → j ≤ most_moves
+  pub length_table : (n k j : ℕ) (ms : List Move) → j ≡ k + length ms → j ≤ most_moves
       → length (table_moves es n k ms) + entry es k ≡ entry es j + length ms
-  length-table n k j [] e l =
+  length_table n k j [] e l =
       let z : entry es k ≡ entry es j = ap (entry es) (let y : k ≡ j = omega arith in y) in omega arith
-  length-table n k j (m ∷ ms) e l =
+  length_table n k j (m ∷ ms) e l =
       let a = length-append (makes n k m) (table_moves es n (suc k) ms) in
       let b = length_made (between k) m (n + entry es k) in
       let c = up k (omega arith) in
-      let d = length-table n (suc k) j ms (omega arith) l in
+      let d = length_table n (suc k) j ms (omega arith) l in
       omega arith
 
   -- new move a is the j-th of those that make move i of the list, which is move k of the program
-  pub table-move : (n b k a j i : ℕ) (ms : List Move) → i < length ms → k ≡ b + i → k < most_moves
+  pub table_move : (n b k a j i : ℕ) (ms : List Move) → i < length ms → k ≡ b + i → k < most_moves
       → j ≤ between k → a + entry es b ≡ entry es k + i + j
       → get_or (table_moves es n b ms) a no_move ≡ get_or (makes n k (get_or ms i no_move)) j no_move
-  table-move n b k a j i [] li ek lk lj ea = absurd (not-suc-le-zero li)
-  table-move n b k a j zero (m ∷ ms) li ek lk lj ea =
+  table_move n b k a j i [] li ek lk lj ea = absurd (not-suc-le-zero li)
+  table_move n b k a j zero (m ∷ ms) li ek lk lj ea =
       let f : b ≡ k = omega arith in
       let g : entry es b ≡ entry es k = ap (entry es) f in
       let u : a ≡ j = omega arith in
@@ -77,13 +77,13 @@ module _ (es : List ℕ) (up : Rising es) where
       ap (λ x. get_or (makes n x m ++ table_moves es n (suc x) ms) a no_move) f
       ∙ ap (λ x. get_or (makes n k m ++ table_moves es n (suc k) ms) x no_move) u
       ∙ get_or_append_left (makes n k m) (table_moves es n (suc k) ms) no_move j (omega arith)
-  table-move n b k a j (suc i) (m ∷ ms) li ek lk lj ea =
+  table_move n b k a j (suc i) (m ∷ ms) li ek lk lj ea =
       let c = length_made (between b) m (n + entry es b) in
       let r = rises (suc b) k (omega arith) (omega arith) in
       let r' = up b (omega arith) in
       get_or-append_right (makes n b m) (table_moves es n (suc b) ms) (suc (between b)) a no_move c
       (omega arith)
-      ∙ table-move n (suc b) k (a - suc (between b)) j i ms (omega arith) (omega arith) lk lj
+      ∙ table_move n (suc b) k (a - suc (between b)) j i ms (omega arith) (omega arith) lk lj
       (omega arith)
 
   pub table_fits : (n b o c a : ℕ) (ms : List Move)

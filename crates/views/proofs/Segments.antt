@@ -7,7 +7,7 @@ use Rattle.program.specs.declared.Move.{Move}
 use Rattle.program.specs.Meaning.{no_stage, no_move, Fits}
 use Rattle.program.specs.Edits.{leads}
 use Rattle.views.specs.declared.schedule.Segment.{Segment}
-use Rattle.views.specs.Schedules.{within_aWeek, segment_stages, goes_on_to, segment_moves}
+use Rattle.views.specs.Schedules.{within_a_week, segment_stages, goes_on_to, segment_moves}
 
 abbrev pub at : List Segment → ℕ → Segment
 at gs i = get_or gs i (record { ramp = 0; hold = 0; marks = 0 })
@@ -40,10 +40,10 @@ hold_stage (g ∷ gs) (suc i) (suc zero) l e = absurd (omega arith)
 hold_stage (g ∷ gs) (suc i) (suc (suc s)) l e = hold_stage gs i s (omega arith) (omega arith)
 
 pub ramp_move : (gs : List Segment) (n i s k : ℕ) → i < length gs → k ≡ 2 * i → s ≡ n + k
-    → leads s (within_aWeek (at gs i).ramp) (s + 1) ≡ get_or (segment_moves gs n) k no_move
+    → leads s (within_a_week (at gs i).ramp) (s + 1) ≡ get_or (segment_moves gs n) k no_move
 ramp_move [] n i s k l e f = absurd (not-suc-le-zero l)
 ramp_move (g ∷ gs) n zero s zero l e f =
-    ap (λ x. leads x (within_aWeek g.ramp) (x + 1)) (let z : s ≡ n = omega arith in z)
+    ap (λ x. leads x (within_a_week g.ramp) (x + 1)) (let z : s ≡ n = omega arith in z)
 ramp_move (g ∷ gs) n zero s (suc k) l e f = absurd (omega arith)
 ramp_move (g ∷ gs) n (suc i) s zero l e f = absurd (omega arith)
 ramp_move (g ∷ gs) n (suc i) s (suc zero) l e f = absurd (omega arith)
@@ -51,12 +51,12 @@ ramp_move (g ∷ gs) n (suc i) s (suc (suc k)) l e f =
     ramp_move gs (n + 2) i s k (omega arith) (omega arith) (omega arith)
 
 pub hold_move : (gs : List Segment) (n i s k : ℕ) → i < length gs → k ≡ 2 * i + 1 → s + 1 ≡ n + k
-    → leads (s + 1) (within_aWeek (at gs i).hold) (goes_on_to (drop (suc i) gs) (s + 2))
+    → leads (s + 1) (within_a_week (at gs i).hold) (goes_on_to (drop (suc i) gs) (s + 2))
     ≡ get_or (segment_moves gs n) k no_move
 hold_move [] n i s k l e f = absurd (not-suc-le-zero l)
 hold_move (g ∷ gs) n zero s zero l e f = absurd (omega arith)
 hold_move (g ∷ gs) n zero s (suc zero) l e f =
-    ap (λ x. leads (x + 1) (within_aWeek g.hold) (goes_on_to gs (x + 2))) (let z : s ≡ n = omega arith in z)
+    ap (λ x. leads (x + 1) (within_a_week g.hold) (goes_on_to gs (x + 2))) (let z : s ≡ n = omega arith in z)
 hold_move (g ∷ gs) n zero s (suc (suc k)) l e f = absurd (omega arith)
 hold_move (g ∷ gs) n (suc i) s zero l e f = absurd (omega arith)
 hold_move (g ∷ gs) n (suc i) s (suc zero) l e f = absurd (omega arith)

@@ -7,4 +7,3 @@ returns-in-48-to-57 c =
     let text = c.args.text.now in
     let some : 1 ≤ length text = omega (arith, ltb-false) in
     some_digit text some (omega arith) (omega arith)
-

@@ -15,4 +15,3 @@ loop-text-preserved c =
       ap (λ xs. drop (run xs) xs) (take_rest t 1) ∙ run_more t l low high ∙ c.loop-text.invariant.1,
       omega arith,
     )
-

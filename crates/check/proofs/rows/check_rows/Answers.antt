@@ -1,6 +1,6 @@
 use Rattle.std.proofs.Common.{length, sym, refl, ◌∙◌, arith}
 use Rattle.check.specs.Outcomes.{memory}
-use Rattle.check.proofs.Finds.{sound-if, enough-if, short-if}
+use Rattle.check.proofs.Finds.{sound_if, enough_if, short_if}
 use Rattle.check.proofs.rows.check_rows.Goals as goal
 
 pub returns-in-Some-still-stage : goal.returns-in-Some-still-stage
@@ -15,7 +15,7 @@ returns-then-not-has-room c =
     c.args.longest.now in (
       (
         record { some = omega arith; onward = c.in-default.ensures; moving = c.in-default-still-stage.ensures },
-        short-if (length c.args.stages.now) was (sym c.if-not-has-room.ensures),
+        short_if (length c.args.stages.now) was (sym c.if-not-has-room.ensures),
       ),
       refl,
     )
@@ -25,12 +25,12 @@ check-lines-requires c =
     let was =
     memory c.args.sheet.now c.args.reached.now c.args.shortest.now
     c.args.longest.now in
-    let enough = enough-if (length c.args.stages.now) was (sym c.has-room.ensures ∙ c.if-not-has-room.false)
+    let enough = enough_if (length c.args.stages.now) was (sym c.has-room.ensures ∙ c.if-not-has-room.false)
     in
     record {
       few = c.requires.few;
       sound =
-          sound-if c.args.stages.now c.args.moves.now c.requires.within c.in-default.ensures
+          sound_if c.args.stages.now c.args.moves.now c.requires.within c.in-default.ensures
           c.in-default-still-stage.ensures;
       lines = c.requires.lines;
       formed = c.requires.formed;
@@ -48,7 +48,7 @@ returns c =
     c.args.longest.now in (
       (
         record { some = omega arith; onward = c.in-default.ensures; moving = c.in-default-still-stage.ensures },
-        enough-if (length c.args.stages.now) was (sym c.has-room.ensures ∙ c.if-not-has-room.false),
+        enough_if (length c.args.stages.now) was (sym c.has-room.ensures ∙ c.if-not-has-room.false),
       ),
       refl,
       record {

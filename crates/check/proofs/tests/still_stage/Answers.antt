@@ -10,7 +10,7 @@ use Rattle.tctl.specs.Checker.{table, endless, still}
 use Rattle.sheet.specs.Rows.{graph_of, row}
 use Rattle.sheet.proofs.Sets.{table_same}
 use Rattle.sheet.proofs.Cases.{in_row}
-use Rattle.check.proofs.Finds.{rests, cycle-if, no-cycle}
+use Rattle.check.proofs.Finds.{rests, cycle_if, no_cycle}
 use Rattle.check.proofs.tests.still_stage.Goals as goal
 
 -- what is left of all stages is what rests
@@ -35,7 +35,7 @@ returns-in-Some c =
     let moves = c.args.moves.now in
     let set = c.keep-endless.new.set in
     let found = c.in-Some.ensures in
-    cycle-if stages moves c.requires.within (among set)
+    cycle_if stages moves c.requires.within (among set)
     (left_rests stages moves c.requires.within set c.requires.few c.keep-endless.ensures.left)
     c.in-Some.s found.0 found.1 c.follow.result c.follow.ensures
 
@@ -44,6 +44,6 @@ returns-in-None c =
     let stages = c.args.stages.now in
     let moves = c.args.moves.now in
     let set = c.keep-endless.new.set in
-    no-cycle stages moves c.requires.within
+    no_cycle stages moves c.requires.within
     (λ s l. sym (left_rests stages moves c.requires.within set c.requires.few c.keep-endless.ensures.left s l)
     ∙ c.in-None.ensures s l)

@@ -2,13 +2,13 @@ use Rattle.std.proofs.Common.{◌≡◌, ℕ, ◌+◌, ◌<◌, length, get_or, 
 use Rattle.std.proofs.lemmas.List.{get_or-replicate, length-replicate, length-set}
 use Rattle.program.specs.Meaning.{most_stages, most_moves}
 use Rattle.settle.specs.Chains.{Chained}
-use Rattle.settle.proofs.Chains.{chained-none, chained_more, end_within}
+use Rattle.settle.proofs.Chains.{chained_none, chained_more, end_within}
 use Rattle.settle.proofs.links.chain.Goals as goal
 
 pub loop-k-init : goal.loop-k-init
 loop-k-init c =
     let none : ℕ = 0 in (
-      chained-none c.args.end c.args.n c.args.moves.now (replicate most_stages none)
+      chained_none c.args.end c.args.n c.args.moves.now (replicate most_stages none)
           (replicate most_moves none) (λ i l. get_or-replicate most_stages i none none (omega arith)),
       length-replicate most_stages none,
       length-replicate most_moves none,

@@ -1,9 +1,9 @@
 use Rattle.std.proofs.Common.{◌≡◌, ℕ, ◌<◌, sym, ap, ◌∙◌, zero-add, arith}
 use Rattle.tally.specs.Walks.{among}
 use Rattle.tally.specs.Rounds.{begins, entry}
-use Rattle.tally.proofs.Sweeps.{begins-partly, still-of-all}
+use Rattle.tally.proofs.Sweeps.{begins_partly, still_of_all}
 use Rattle.settle.specs.Tended.{Due}
-use Rattle.settle.proofs.Tended.{tended-none, partly_same}
+use Rattle.settle.proofs.Tended.{tended_none, partly_same}
 use Rattle.settle.proofs.table.by_queue.Goals as goal
 
 pub line-up-requires : goal.line-up-requires
@@ -26,7 +26,7 @@ flow-requires g c =
       pass = c.requires.pass;
       room = omega arith;
       lined = c.line-up.ensures.lined;
-      tended = tended-none K g.met.T.Tally.lawful moves (among c.args.pass.now) goals table
+      tended = tended_none K g.met.T.Tally.lawful moves (among c.args.pass.now) goals table
           (Due moves c.line-up.new.queue)
           (λ k l. ap table (sym (zero-add _)) ∙ c.begin-row.ensures.written _ (within k l).1)
           (λ k l t. c.line-up.ensures.wait c.if-line-up.true _ (within k l).1 t);
@@ -47,9 +47,9 @@ returns-then-line-up g c =
     record {
       above = λ j h. c.flow.ensures.above j h ∙ c.begin-row.ensures.above j (omega arith);
       all = λ e.
-          still-of-all K laws n moves within pass goals (entry K c.flow.new.table)
+          still_of_all K laws n moves within pass goals (entry K c.flow.new.table)
           (c.flow.ensures.partly goals
           (partly_same K n moves pass goals (begins K goals) begun begin
-          (begins-partly K laws n moves within pass goals)))
+          (begins_partly K laws n moves within pass goals)))
           (c.flow.ensures.still e);
     }

@@ -1,7 +1,7 @@
 use Rattle.std.proofs.Common.{◌∙◌, inl, inr, ⊎_elim, arith}
 use Rattle.tally.specs.Walks.{among}
 use Rattle.tally.specs.Rounds.{entry}
-use Rattle.settle.proofs.Tended.{tended-still}
+use Rattle.settle.proofs.Tended.{tended_still}
 use Rattle.settle.proofs.table.flow.Goals as goal
 
 pub returns-in-default : goal.returns-in-default
@@ -12,7 +12,7 @@ returns-in-default g c =
       partly = inv.1;
       above = inv.2;
       still = λ e.
-          tended-still K g.met.T.Tally.lawful c.args.moves.now (among c.args.pass.now)
+          tended_still K g.met.T.Tally.lawful c.args.moves.now (among c.args.pass.now)
           (entry K c.loop-turn.table)
           (λ k l. ⊎_elim (λ nothing. inl nothing) (λ w. absurd (c.in-default.ensures _ w)) (inv.3 k l));
     }

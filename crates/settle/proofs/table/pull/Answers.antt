@@ -10,7 +10,7 @@ use Rattle.settle.specs.Queues.{Waits}
 use Rattle.settle.specs.Tended.{Due}
 use Rattle.settle.proofs.Chains.{chain_more}
 use Rattle.settle.proofs.Queues.{lined_more}
-use Rattle.settle.proofs.Tended.{tended-more, partly_more, above_more}
+use Rattle.settle.proofs.Tended.{tended_more, partly_more, above_more}
 use Rattle.settle.proofs.table.pull.Goals as goal
 
 pub returns-then-not-pour-back : goal.returns-then-not-pour-back
@@ -62,7 +62,7 @@ loop-link-preserved g c =
           (entry K c.pour-back.new.table) poured.place inv.3,
       above_more K laws n moves within pass k real c.args.table.now c.loop-link.table
           c.pour-back.new.table poured.place inv.4,
-      tended-more K laws moves pass k (entry K c.loop-link.table) (entry K c.pour-back.new.table)
+      tended_more K laws moves pass k (entry K c.loop-link.table) (entry K c.pour-back.new.table)
           (λ j. Due moves was j ⊎ ((end_at Enters moves j ≡ stage) × (j < link)))
           (λ j. Due moves after j ⊎ ((end_at Enters moves j ≡ stage) × (j < next))) poured.place inv.5
           (λ j ne. ⊎_elim (λ w. inl (poured.still _ w)) (λ o. inr (chain_more Enters moves stage link next right j ne o)))

@@ -9,7 +9,7 @@ use Rattle.sheet.specs.Sheets.{bit, column, line_list}
 use Rattle.rules.specs.Lines.{most_lines, rule_at}
 use Rattle.rules.proofs.Ruled.{formed_more}
 use Rattle.sheet.proofs.Sets.{table_stages, sound_within}
-use Rattle.sheet.proofs.Bits.{column-kept, column-new, below_new}
+use Rattle.sheet.proofs.Bits.{column_kept, column_new, below_new}
 use Rattle.sheet.proofs.Ruled.{column_is}
 use Rattle.sheet.proofs.sheets.check_lines.Goals as goal
 
@@ -28,11 +28,11 @@ loop-k-preserved c =
       (λ j h.
           ⊎_elim
           (λ e.
-          ap (column n after) e ∙ column-new n k was after L new.added c.loop-k.invariant.1
+          ap (column n after) e ∙ column_new n k was after L new.added c.loop-k.invariant.1
           ∙ table_stages (at L) c.args.stages.now
           ∙ column_is p lines k (column n was) c.loop-k-test.true formed done
           ∙ ap (λ x. where_holds p (rule_at lines x)) (sym e))
-          (λ ne. column-kept n k was after L new.added j (omega arith) ∙ done j (omega arith))
+          (λ ne. column_kept n k was after L new.added j (omega arith) ∙ done j (omega arith))
           (cases_eq j k)),
       below_new n k was after L new.added c.loop-k.invariant.1,
       (λ i h. new.above i h ∙ c.loop-k.invariant.2 i h),

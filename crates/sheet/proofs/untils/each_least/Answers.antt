@@ -2,7 +2,7 @@ use Rattle.std.proofs.Common.{ap, ◌∙◌, arith}
 use Rattle.tally.specs.Walks.{among}
 use Rattle.sheet.specs.Rows.{both, either}
 use Rattle.tctl.specs.Checker.{non}
-use Rattle.sheet.proofs.Cases.{each-least-row}
+use Rattle.sheet.proofs.Cases.{each_least_row}
 use Rattle.sheet.proofs.untils.each_least.Goals as goal
 
 pub returns : goal.returns
@@ -11,7 +11,7 @@ returns c =
     let v = c.combine.new.out in
     record {
       is =
-          each-least-row c.args.stages.now c.args.moves.now c.requires.within c.args.f.now
+          each_least_row c.args.stages.now c.args.moves.now c.requires.within c.args.f.now
           c.args.g.now c.args.c (omega arith) shown c.before-goal.new.out c.neither.new.out
           c.tell.new.out c.keep-endless.new.set v c.combine-3.new.out
           c.last-before.new.out c.combine-5.new.out

@@ -7,7 +7,7 @@ use Rattle.tctl.specs.Checker.{non, endless, any_move}
 use Rattle.sheet.specs.Rows.{graph_of, both, either}
 use Rattle.sheet.specs.Told.{long_from}
 use Rattle.sheet.proofs.Sets.{table_same}
-use Rattle.sheet.proofs.Cases.{each-most-row}
+use Rattle.sheet.proofs.Cases.{each_most_row}
 use Rattle.sheet.proofs.untils.each_most.Goals as goal
 
 pub returns : goal.returns
@@ -22,7 +22,7 @@ returns c =
     let all = replicate most_stages 1 in
     record {
       is =
-          each-most-row c.args.stages.now c.args.moves.now c.requires.within c.args.f.now
+          each_most_row c.args.stages.now c.args.moves.now c.requires.within c.args.f.now
           c.args.g.now c.args.c (omega arith) shown row_n c.neither.new.out fails ever left all
           c.combine-5.new.out
           c.open-row.ensures.is

@@ -2,7 +2,7 @@ use Rattle.std.proofs.Common.{ap, ◌∙◌, arith}
 use Rattle.tally.specs.Walks.{among}
 use Rattle.sheet.specs.Rows.{both, either}
 use Rattle.tctl.specs.Checker.{non}
-use Rattle.sheet.proofs.Cases.{some-least-row}
+use Rattle.sheet.proofs.Cases.{some_least_row}
 use Rattle.sheet.proofs.untils.some_least.Goals as goal
 
 pub returns : goal.returns
@@ -12,7 +12,7 @@ returns c =
     let ever = c.keep-endless.new.set in
     record {
       is =
-          some-least-row c.args.stages.now c.args.moves.now c.requires.within c.args.f.now
+          some_least_row c.args.stages.now c.args.moves.now c.requires.within c.args.f.now
           c.args.g.now c.args.c (omega arith) shown pass c.combine-3.new.out ever
           c.combine-4.new.out c.combine-6.new.out
           c.open-row.ensures.is

@@ -3,7 +3,7 @@ use Rattle.program.specs.declared.Stage.{Stage}
 use Rattle.program.specs.declared.Move.{Move}
 use Rattle.program.specs.Meaning.{stage_at}
 use Rattle.program.specs.Edits.{is_open}
-use Rattle.stores.proofs.Joints.{tidy-apart, tidy-short}
+use Rattle.stores.proofs.Joints.{tidy_apart, tidy_short}
 use Rattle.stores.proofs.joint.find_joint.Goals as goal
 use Rattle.stores.proofs.joint.find_joint.Goals.{then-into-out-of-via-then-into-out-of}
 use Rattle.stores.proofs.joint.find_joint.Goals.{then-into-out-of-via-else-into-out-of+then-minutes}
@@ -18,13 +18,13 @@ returns-then-into-out-of g c t =
     ap (λ (x : Stage). is_open x.kind) (sym c.stage.ensures) ∙ ap is_open c.in-Silent.is in
     let enters = c.in-Some.ensures in
     let leaves = c.in-Some-only-move.ensures in
-    let short = tidy-short p s _ _ last hushed enters leaves t in
+    let short = tidy_short p s _ _ last hushed enters leaves t in
     let first = ap (λ (m : Move). m.minutes) c.move-at-first.ensures in
     let second = ap (λ (m : Move). m.minutes) c.move-at-second.ensures in
     let never : ⊥ =
     elim c.then-into-out-of.branch [
       | then-into-out-of-via-then-into-out-of w ↦
-          tidy-apart p s _ _ last hushed enters leaves t w.if-into-out-of.true
+          tidy_apart p s _ _ last hushed enters leaves t w.if-into-out-of.true
       | then-into-out-of-via-else-into-out-of+then-minutes w ↦ omega (arith, w.if-minutes.true)
     ] in
     absurd never

@@ -4,7 +4,7 @@ use Rattle.settle.specs.declared.links.End.TheVariants.{Leaves, Enters}
 use Rattle.settle.specs.declared.removal.Removal.{Removal}
 use Rattle.settle.specs.Chains.{end_at, Linked}
 use Rattle.settle.specs.Removals.{Watched, Due, Outside, Removed}
-use Rattle.settle.proofs.Removals.{shrinks-more, watching-due}
+use Rattle.settle.proofs.Removals.{shrinks_more, watching_due}
 use Rattle.settle.proofs.removal.Removal.of.Goals as goal
 
 pub watch-all-requires : goal.watch-all-requires
@@ -37,7 +37,7 @@ look-requires c =
       booked = looks.booked set inv.1;
       watching = λ stage l t.
           subst (λ (links : List ℕ). Watched sort moves set next stage (get_or links stage 0)) (sym looks.watched)
-          (watching-due sort moves n set r (Due moves r) next
+          (watching_due sort moves n set r (Due moves r) next
           (λ k g. ⊎_elim (λ e. inr e) (λ h. inl h) (looks.others _ g)) inv.2 stage (subst (λ x. stage < x) all l) t);
     }
 
@@ -50,7 +50,7 @@ loop-gone-preserved c =
       removes.stages ∙ all,
       removes.booked,
       (λ stage l. c.look.ensures.watching stage (subst (λ x. stage < x) (sym all) l)),
-      shrinks-more c.args.sort c.args.moves.now (among c.watch-all.new.set) (among c.loop-gone.set)
+      shrinks_more c.args.sort c.args.moves.now (among c.watch-all.new.set) (among c.loop-gone.set)
           (among c.look.new.set) inv.3 removes.shrinks,
       (λ i h. removes.rest i (subst (λ x. x ≤ i) (sym all) h) ∙ inv.4 i h),
     )
@@ -65,10 +65,10 @@ returns c =
     let first = c.watch-all.ensures.removes in
     let none = c.in-default.ensures in
     subst (λ (q : Removal). Removed sort c.args.n moves c.args.set.now after q) (sym none.1) (record {
-      shrinks = shrinks-more sort moves (among c.args.set.now) (among c.watch-all.new.set) (among after)
+      shrinks = shrinks_more sort moves (among c.args.set.now) (among c.watch-all.new.set) (among after)
           first.shrinks inv.3;
       rest = λ i h. inv.4 i h ∙ first.rest i (subst (λ x. x ≤ i) (sym c.new-removal.ensures.all) h);
       stages = inv.0;
       booked = inv.1;
-      watching = watching-due sort moves c.args.n (among after) r (Due moves r) (λ k. ⊥) (λ k g. none.0 _ g) inv.2;
+      watching = watching_due sort moves c.args.n (among after) r (Due moves r) (λ k. ⊥) (λ k g. none.0 _ g) inv.2;
     })

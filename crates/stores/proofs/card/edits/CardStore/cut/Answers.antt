@@ -5,7 +5,7 @@ use Rattle.program.specs.declared.edit.Edit.TheVariants as edit
 use Rattle.program.proofs.Doing.{cuts}
 use Rattle.program.proofs.Kept.{does_tidy}
 use Rattle.stores.specs.Cards.{card_caps}
-use Rattle.stores.proofs.Cards.{card-cut}
+use Rattle.stores.proofs.Cards.{card_cut}
 use Rattle.stores.proofs.Kept.{ends_kept_by_cut}
 use Rattle.stores.proofs.card.edits.CardStore.cut.Goals as goal
 
@@ -23,7 +23,7 @@ invariant-of-self c =
     let below : c.args.k < card.moves.count = omega (arith, allowed.real) in
     let hs : card.stages.count < length card.stages.records = omega arith in
     let hm : card.moves.count < length card.moves.records = omega arith in
-    let cut = card-cut _ _ _ _ c.args.k c.args.place _ allowed below hs hm in
+    let cut = card_cut _ _ _ _ c.args.k c.args.place _ allowed below hs hm in
     let ends = ends_kept_by_cut _ _ _ _ _ allowed cut card.ends in (
       simp length-set card.stage_table,
       (simp length-set card.move_table, (omega arith, (omega arith, (ends, tt)))),
@@ -38,7 +38,7 @@ returns c =
     let below : c.args.k < card.moves.count = omega (arith, allowed.real) in
     let hs : card.stages.count < length card.stages.records = omega arith in
     let hm : card.moves.count < length card.moves.records = omega arith in
-    let cut = card-cut _ _ _ _ c.args.k c.args.place _ allowed below hs hm in
+    let cut = card_cut _ _ _ _ c.args.k c.args.place _ allowed below hs hm in
     let does = cuts card_caps _ _ _ _ _ allowed.real allowed.inside s (omega arith) (omega arith) cut in
     let tidy = does_tidy card_caps _ _ (edit.Cut c.args.k c.args.place) _ (λ _. does) in
     record { does = does; tidy = tidy; kept = refl }

@@ -4,8 +4,8 @@ use Rattle.std.proofs.lemmas.Result.{err_from_is_err_and}
 use Rattle.program.specs.declared.edit.Edit.TheVariants as edit
 use Rattle.program.proofs.Kept.{does_tidy}
 use Rattle.stores.specs.Cards.{card_caps}
-use Rattle.stores.proofs.Cards.{card-joined}
-use Rattle.stores.proofs.Joints.{joined-does, ends-kept-by-join}
+use Rattle.stores.proofs.Cards.{card_joined}
+use Rattle.stores.proofs.Joints.{joined_does, ends_kept_by_join}
 use Rattle.stores.proofs.Refusals.{refuses}
 use Rattle.stores.proofs.card.edits.CardStore.join.Goals as goal
 
@@ -26,8 +26,8 @@ invariant-of-self c =
     let new = c.take-out.new.table in
     let below : j.into < card.moves.count = omega (arith, allowed.enters.real) in
     let taken = c.take-out.ensures in
-    let joined = card-joined _ _ card.stages.records _ j new some below taken.records in
-    let ends = ends-kept-by-join _ j allowed _ joined card.ends in (
+    let joined = card_joined _ _ card.stages.records _ j new some below taken.records in
+    let ends = ends_kept_by_join _ j allowed _ joined card.ends in (
       card.stage_table,
       (
         taken.len ∙ length-set card.moves.records j.into j.whole ∙ card.move_table,
@@ -45,6 +45,6 @@ returns c =
     let some : j.stage ≤ card.stages.count = omega (arith, allowed.last) in
     let new = c.take-out.new.table in
     let below : j.into < card.moves.count = omega (arith, allowed.enters.real) in
-    let joined = card-joined _ _ card.stages.records _ j new some below c.take-out.ensures.records in
-    let does = joined-does _ j allowed _ joined in
+    let joined = card_joined _ _ card.stages.records _ j new some below c.take-out.ensures.records in
+    let does = joined_does _ j allowed _ joined in
     record { does = does; tidy = does_tidy card_caps _ _ edit.Join _ does; kept = refl }

@@ -4,7 +4,7 @@ use Rattle.std.proofs.Common.{true, [], refl, arith}
 use Rattle.program.specs.Meaning.{Limits}
 use Rattle.stores.specs.Records.{stage_layout, move_layout}
 use Rattle.stores.specs.InTray.{tray_meaning}
-use Rattle.stores.proofs.Areas.{length-inUse}
+use Rattle.stores.proofs.Areas.{length-in_use}
 use Rattle.stores.specs.declared.tray.Tray as tray
 use Rattle.program.specs.contracts.Program.stage_count as trait-stage-count
 use Rattle.stores.specs.contracts.tray.edits.TrayProgram.stage_count as own-stage-count
@@ -42,8 +42,8 @@ ruleset ends = (Logic.id⊢, Impl.to_emp, Less.less)
 tray_limits : (t : tray.Tray) → Limits (tray_meaning t)
 tray_limits t =
     record {
-      few_stages = omega (arith, length-inUse stage_layout t.stage_count t.areas.now.stages.items);
-      few_moves = omega (arith, length-inUse move_layout t.move_count t.areas.now.moves.items);
+      few_stages = omega (arith, length-in_use stage_layout t.stage_count t.areas.now.stages.items);
+      few_moves = omega (arith, length-in_use move_layout t.move_count t.areas.now.moves.items);
       ends = t.ends;
     }
 

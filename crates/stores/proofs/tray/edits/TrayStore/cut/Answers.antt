@@ -5,8 +5,8 @@ use Rattle.program.proofs.Doing.{cuts}
 use Rattle.program.proofs.Kept.{does_tidy}
 use Rattle.stores.specs.Records.{stage_layout, move_layout}
 use Rattle.stores.specs.Trays.{areas_room}
-use Rattle.stores.proofs.Areas.{length-inUse, below-inUse}
-use Rattle.stores.proofs.Trays.{tray-cut, cut_long, same_room}
+use Rattle.stores.proofs.Areas.{length-in_use, below-in_use}
+use Rattle.stores.proofs.Trays.{tray_cut, cut_long, same_room}
 use Rattle.stores.proofs.Refusals.{cut_stages_full, cut_moves_full}
 use Rattle.stores.proofs.Kept.{ends_kept_by_cut}
 use Rattle.stores.proofs.tray.edits.TrayStore.cut.Goals as goal
@@ -26,7 +26,7 @@ returns-in-err-pieces c =
 pub returns-then-stage-stage-capacity : goal.returns-then-stage-stage-capacity
 returns-then-stage-stage-capacity c =
     let tray = c.args.self.now in
-    let s = length-inUse stage_layout tray.stage_count tray.areas.now.stages.items in
+    let s = length-in_use stage_layout tray.stage_count tray.areas.now.stages.items in
     let allowed = c.in-ok-pieces.ensures in
     let room = c.stage-capacity.ensures in
     record {
@@ -39,8 +39,8 @@ returns-then-stage-stage-capacity c =
 pub returns-then-n-move-capacity : goal.returns-then-n-move-capacity
 returns-then-n-move-capacity c =
     let tray = c.args.self.now in
-    let s = length-inUse stage_layout tray.stage_count tray.areas.now.stages.items in
-    let n = length-inUse move_layout tray.move_count tray.areas.now.moves.items in
+    let s = length-in_use stage_layout tray.stage_count tray.areas.now.stages.items in
+    let n = length-in_use move_layout tray.move_count tray.areas.now.moves.items in
     let allowed = c.in-ok-pieces.ensures in
     let rs = c.stage-capacity.ensures in
     let rm = c.move-capacity.ensures in
@@ -56,18 +56,18 @@ pub put-move-requires : goal.put-move-requires
 put-move-requires c =
     let tray = c.args.self.now in
     let real = c.in-ok-pieces.ensures.real in
-    let below = below-inUse move_layout tray.move_count _ tray.areas.now.moves.items real in
+    let below = below-in_use move_layout tray.move_count _ tray.areas.now.moves.items real in
     omega arith
 
 pub invariant-of-self : goal.invariant-of-self
 invariant-of-self c =
     let tray = c.args.self.now in
     let allowed = c.in-ok-pieces.ensures in
-    let below = below-inUse move_layout tray.move_count _ tray.areas.now.moves.items allowed.real in
+    let below = below-in_use move_layout tray.move_count _ tray.areas.now.moves.items allowed.real in
     let first = c.put-move.ensures in
     let second = c.put-move-2.ensures in
     let stage = c.put-stage.ensures in
-    let cut = tray-cut _ _ _ tray.stage_area tray.move_area _ _ _ _ _ _ allowed below first second stage in
+    let cut = tray_cut _ _ _ tray.stage_area tray.move_area _ _ _ _ _ _ allowed below first second stage in
     let long = cut_long _ _ _ _ _ _ _ _ _ _ first second stage in
     let ends = ends_kept_by_cut _ _ _ _ _ allowed cut.is tray.ends in
     let rs = c.stage-capacity.ensures in
@@ -78,14 +78,14 @@ pub returns : goal.returns
 returns c =
     let tray = c.args.self.now in
     let allowed = c.in-ok-pieces.ensures in
-    let below = below-inUse move_layout tray.move_count _ tray.areas.now.moves.items allowed.real in
+    let below = below-in_use move_layout tray.move_count _ tray.areas.now.moves.items allowed.real in
     let first = c.put-move.ensures in
     let second = c.put-move-2.ensures in
     let stage = c.put-stage.ensures in
-    let cut = tray-cut _ _ _ tray.stage_area tray.move_area _ _ _ _ _ _ allowed below first second stage in
+    let cut = tray_cut _ _ _ tray.stage_area tray.move_area _ _ _ _ _ _ allowed below first second stage in
     let long = cut_long _ _ _ _ _ _ _ _ _ _ first second stage in
-    let s = length-inUse stage_layout tray.stage_count tray.areas.now.stages.items in
-    let n = length-inUse move_layout tray.move_count tray.areas.now.moves.items in
+    let s = length-in_use stage_layout tray.stage_count tray.areas.now.stages.items in
+    let n = length-in_use move_layout tray.move_count tray.areas.now.moves.items in
     let rs = c.stage-capacity.ensures in
     let rm = c.move-capacity.ensures in
     let caps = areas_room tray.areas.now in

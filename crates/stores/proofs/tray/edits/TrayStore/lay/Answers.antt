@@ -4,8 +4,8 @@ use Rattle.program.specs.declared.edit.Edit.TheVariants as edit
 use Rattle.program.proofs.Kept.{does_tidy}
 use Rattle.stores.specs.Records.{move_layout}
 use Rattle.stores.specs.Trays.{areas_room}
-use Rattle.stores.proofs.Areas.{length-inUse}
-use Rattle.stores.proofs.Trays.{tray-laid, move_put_long, same_room}
+use Rattle.stores.proofs.Areas.{length-in_use}
+use Rattle.stores.proofs.Trays.{tray_laid, move_put_long, same_room}
 use Rattle.stores.proofs.Refusals.{lay_full, allowed_lays}
 use Rattle.stores.proofs.Kept.{ends_kept_by_lay}
 use Rattle.stores.proofs.tray.edits.TrayStore.lay.Goals as goal
@@ -25,7 +25,7 @@ returns-in-err-record c =
 pub returns-then-n-move-capacity : goal.returns-then-n-move-capacity
 returns-then-n-move-capacity c =
     let tray = c.args.self.now in
-    let n = length-inUse move_layout tray.move_count tray.areas.now.moves.items in
+    let n = length-in_use move_layout tray.move_count tray.areas.now.moves.items in
     let allowed = c.in-ok-record.ensures in
     let room = c.move-capacity.ensures in
     record {
@@ -40,7 +40,7 @@ invariant-of-self c =
     let tray = c.args.self.now in
     let allowed = c.in-ok-record.ensures in
     let put = c.put-move.ensures in
-    let laid = tray-laid _ _ _ tray.stage_area tray.move_area _ _ _ _ _ allowed.is put in
+    let laid = tray_laid _ _ _ tray.stage_area tray.move_area _ _ _ _ _ allowed.is put in
     let long = move_put_long _ _ _ _ put in
     let ends = ends_kept_by_lay _ _ _ _ _ _ allowed laid.is tray.ends in
     let room = c.move-capacity.ensures in
@@ -51,9 +51,9 @@ returns c =
     let tray = c.args.self.now in
     let allowed = c.in-ok-record.ensures in
     let put = c.put-move.ensures in
-    let laid = tray-laid _ _ _ tray.stage_area tray.move_area _ _ _ _ _ allowed.is put in
+    let laid = tray_laid _ _ _ tray.stage_area tray.move_area _ _ _ _ _ allowed.is put in
     let long = move_put_long _ _ _ _ put in
-    let n = length-inUse move_layout tray.move_count tray.areas.now.moves.items in
+    let n = length-in_use move_layout tray.move_count tray.areas.now.moves.items in
     let room = c.move-capacity.ensures in
     let caps = areas_room tray.areas.now in
     let does = allowed_lays caps _ _ _ _ _ _ _ allowed n (omega (arith, room)) laid.is in

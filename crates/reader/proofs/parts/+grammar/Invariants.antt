@@ -1,6 +1,6 @@
 use Rattle.std.proofs.Common.{◌+◌, ◌*◌, length}
 use Rattle.reader.proofs.Steps.{GrewItems, GrewTerms}
-use Rattle.reader.proofs.parts.+read_item_read_rule_read_term_read_until.Given as goal
+use Rattle.reader.proofs.parts.+grammar.Given as goal
 
 abbrev pub decreases-read-item : goal.decreases-read-item
 decreases-read-item l = 3 * length l.text.now

@@ -4,11 +4,11 @@ use Rattle.signs.specs.Signs.{cap}
 use Rattle.signs.specs.First.{Begins}
 use Rattle.signs.proofs.Told.{exactly, number_begins}
 use Rattle.reader.proofs.Steps.{term_lacks, term_starts, term_goes_on, term_lacks_on, term_ends, rule_lacks}
-use Rattle.reader.proofs.Steps.{rule_starts, rule_goes_on, rule_lacks_on, rule_ends, body_lacks_open, body-lacks-left}
-use Rattle.reader.proofs.Steps.{body-lacks-limit, body-lacks-right, body-lacks-close, body-ends, item_lacks_none}
+use Rattle.reader.proofs.Steps.{rule_starts, rule_goes_on, rule_lacks_on, rule_ends, body_lacks_open, body_lacks_left}
+use Rattle.reader.proofs.Steps.{body_lacks_limit, body_lacks_right, body_lacks_close, body_ends, item_lacks_none}
 use Rattle.reader.proofs.Steps.{item_lacks_number, item_lacks_not, item_lacks_round}
 use Rattle.reader.proofs.Steps.{item_lacks_other, item_one, item_letter, item_not, item_by_close, item_by_body}
-use Rattle.reader.proofs.parts.+read_item_read_rule_read_term_read_until.Goals as goal
+use Rattle.reader.proofs.parts.+grammar.Goals as goal
 
 pub read-item-returns-in-err-first : goal.read-item-returns-in-err-first
 read-item-returns-in-err-first t c =
@@ -109,30 +109,30 @@ read-until-returns-in-err-rest t c =
 pub read-until-returns-in-err-rest-2 : goal.read-until-returns-in-err-rest-2
 read-until-returns-in-err-rest-2 t c =
     rw c.from-residual-in-err-rest-2.ensures
-    (body-lacks-left (exactly refl tt c.in-ok-rest.ensures) c.in-err-rest-2.ensures)
+    (body_lacks_left (exactly refl tt c.in-ok-rest.ensures) c.in-err-rest-2.ensures)
 
 pub read-until-returns-in-err-bound : goal.read-until-returns-in-err-bound
 read-until-returns-in-err-bound t c =
     rw c.from-residual-in-err-bound.ensures
-    (body-lacks-limit (exactly refl tt c.in-ok-rest.ensures) c.in-ok-rest-2.ensures
+    (body_lacks_limit (exactly refl tt c.in-ok-rest.ensures) c.in-ok-rest-2.ensures
     c.in-err-bound.ensures)
 
 pub read-until-returns-in-err-rest-3 : goal.read-until-returns-in-err-rest-3
 read-until-returns-in-err-rest-3 t c =
     rw c.from-residual-in-err-rest-3.ensures
-    (body-lacks-right (exactly refl tt c.in-ok-rest.ensures) c.in-ok-rest-2.ensures
+    (body_lacks_right (exactly refl tt c.in-ok-rest.ensures) c.in-ok-rest-2.ensures
     c.in-ok-bound.ensures c.in-err-rest-3.ensures)
 
 pub read-until-returns-in-err-rest-4 : goal.read-until-returns-in-err-rest-4
 read-until-returns-in-err-rest-4 t c =
     rw c.from-residual-in-err-rest-4.ensures
-    (body-lacks-close (exactly refl tt c.in-ok-rest.ensures) c.in-ok-rest-2.ensures
+    (body_lacks_close (exactly refl tt c.in-ok-rest.ensures) c.in-ok-rest-2.ensures
     c.in-ok-bound.ensures c.in-ok-rest-3.ensures
     (λ ss e. c.in-err-rest-4.ensures _ ss e refl))
 
 pub read-until-returns : goal.read-until-returns
 read-until-returns t c =
-    body-ends (exactly refl tt c.in-ok-rest.ensures) c.in-ok-rest-2.ensures
+    body_ends (exactly refl tt c.in-ok-rest.ensures) c.in-ok-rest-2.ensures
     c.in-ok-bound.ensures c.in-ok-rest-3.ensures
     c.args.quantifier _ (exactly refl tt c.in-ok-rest-4.ensures) c.push_until.ensures
     c.last-left.ensures
