@@ -118,7 +118,7 @@ def main():
     seen, changed = names()
     if "--by" in sys.argv:  # the names as a list gives them: for files that came in after the run
         lines = open(sys.argv[sys.argv.index("--by") + 1], encoding="utf-8").read().splitlines()
-        changed = dict(line.split() for line in lines)
+        seen, changed = set(), dict(line.split() for line in lines)
     back = defaultdict(set)
     for old, new in changed.items():
         back[new].add(old)

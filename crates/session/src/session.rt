@@ -6,7 +6,7 @@ ghost use Rattle.session.specs.Answers.{Answered, Makes};
 ghost use Rattle.session.specs.Sessions.{Performed};
 
 use crate::calls::{Answer, Call, OutOfMemory, Verdict};
-use check::check;
+use checker::check;
 use program::{MOST_STAGES, Program, Store};
 use std::alloc::{AllocError, Global};
 use tally::{Longest, Reach, Shortest};

@@ -1,5 +1,5 @@
 -- What is left, once each stage watches a move into what is left, is the endless part of the set.
-use Rattle.std.proofs.Common.{◌≡◌, ℕ, zero, suc, ◌-◌, ◌<◌, Bool, true, false, T, List, map, length, get_or, sym, refl, ap, ◌∙◌, subst, ⊎_elim, arith}
+use Rattle.std.proofs.Common.{◌≡◌, ℕ, zero, suc, ◌-◌, ◌<◌, Bool, true, false, T, List, length, get_or, sym, refl, ap, ◌∙◌, subst, ⊎_elim, arith}
 use Rattle.std.proofs.lemmas.List.{get_or-map, length-map, ext_get_or}
 use Rattle.program.specs.declared.Stage.{Stage}
 use Rattle.program.specs.declared.Move.{Move}
@@ -10,7 +10,7 @@ use Rattle.tally.specs.Rounds.{Within}
 use Rattle.tctl.specs.Graph as timed
 use Rattle.tctl.specs.Graph.{Graph, size, count, move_at}
 use Rattle.tctl.specs.Runs.{Ends}
-use Rattle.tctl.specs.Checker.{table, tab_from, at, endless}
+use Rattle.tctl.specs.Checker.{tab_from, at, endless}
 use Rattle.tctl.specs.Greatest as greatest
 use Rattle.tctl.proofs.Basics.{table_e, table_i}
 use Rattle.tctl.proofs.Greatest.{endless_is_greatest_lem}

@@ -5,6 +5,7 @@ use Rattle.std.proofs.lemmas.List.{append_assoc, append-nil, length-append, leng
 use Rattle.std.specs.List.{remove as removed, between}
 use Rattle.std.proofs.lemmas.List.Edits.{length-remove}
 use Rattle.stores.specs.Areas.{put, taken_out, number_at, Layout, bytes, in_use, filled, Holds}
+use Rattle.stores.specs.InUse.{length_in_use}
 
 pub number_at-drop : (n : ℕ) (bs : List ℕ) (i : ℕ) → number_at (drop n bs) i ≡ number_at bs (n + i)
 number_at-drop n bs i =
@@ -36,12 +37,8 @@ pub record Written {X : Type 0} (l : Layout X) (n : ℕ) (bs : List ℕ) (xs : L
   pub holds : Holds l n bs
 
 module _ {X : Type 0} (l : Layout X) where
-  pub length-in_use : (n : ℕ) (bs : List ℕ) → length (in_use l n bs) ≡ n
-  length-in_use zero bs = refl
-  length-in_use (suc n) bs = ap suc (length-in_use n (drop l.width bs))
-
   pub below-in_use : (n i : ℕ) (bs : List ℕ) → i < length (in_use l n bs) → i < n
-  below-in_use n i bs h = rw (length-in_use n bs) at h
+  below-in_use n i bs h = rw (length_in_use l n bs) at h
 
   pub get_or-in_use : (n i : ℕ) (bs : List ℕ) (d : X) → i < n
       → get_or (in_use l n bs) i d ≡ l.read (drop (l.width * i) bs)
@@ -173,20 +170,20 @@ module _ {X : Type 0} (l : Layout X) (law : Lawful l) where
         let k = length bs - length (bytes l xs) in
         let put_is : put bs (l.width * n) (l.write x) ≡ bytes l (xs ++ (x ∷ [])) ++ replicate (k - l.width) 0 =
         ap (λ r. put r (l.width * n) (l.write x)) h
-        ∙ ap (λ m. put (bytes l xs ++ replicate k 0) (l.width * m) (l.write x)) (sym (length-in_use l n bs))
+        ∙ ap (λ m. put (bytes l xs ++ replicate k 0) (l.width * m) (l.write x)) (sym (length_in_use l n bs))
         ∙ put_behind xs (replicate k 0) x
         ∙ ap (λ r. bytes l (xs ++ (x ∷ [])) ++ r) (drop-replicate l.width k 0) in
-        written (n + 1) (k - l.width) _ _ (length_push xs x ∙ ap (λ m. m + 1) (length-in_use l n bs)) (e ∙ put_is)
+        written (n + 1) (k - l.width) _ _ (length_push xs x ∙ ap (λ m. m + 1) (length_in_use l n bs)) (e ∙ put_is)
 
     pub record_replaced : (i : ℕ) (new : List ℕ) → i < n → new ≡ put bs (l.width * i) (l.write x)
         → Written l n new (set (in_use l n bs) i x)
     record_replaced i new below e =
         let xs = in_use l n bs in
         let k = length bs - length (bytes l xs) in
-        let inside : i < length xs = omega (arith, length-in_use l n bs) in
+        let inside : i < length xs = omega (arith, length_in_use l n bs) in
         let put_is : put bs (l.width * i) (l.write x) ≡ bytes l (set xs i x) ++ replicate k 0 =
         ap (λ r. put r (l.width * i) (l.write x)) h ∙ put_record xs (replicate k 0) i x inside in
-        written n k _ _ (length-set xs i x ∙ length-in_use l n bs) (e ∙ put_is)
+        written n k _ _ (length-set xs i x ∙ length_in_use l n bs) (e ∙ put_is)
 
   -- record i taken out of an area of n records, which leaves m
   pub record_taken : (n m : ℕ) (bs : List ℕ) → Holds l n bs → n ≡ suc m → (i : ℕ) (new : List ℕ) → i < n
@@ -194,7 +191,7 @@ module _ {X : Type 0} (l : Layout X) (law : Lawful l) where
   record_taken n m bs h one i new below e =
       let xs = in_use l n bs in
       let k = length bs - length (bytes l xs) in
-      let count = length-in_use l n bs in
+      let count = length_in_use l n bs in
       let inside : i < length xs = omega arith in
       let taken_is : taken_out l.width n i bs ≡ bytes l (removed xs i) ++ replicate (l.width + k) 0 =
       ap (taken_out l.width n i) h

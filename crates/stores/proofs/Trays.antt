@@ -16,7 +16,8 @@ use Rattle.stores.specs.Areas.{in_use, Holds}
 use Rattle.stores.specs.Records.{stage_layout, move_layout}
 use Rattle.stores.specs.Trays.{areas_prog, areas_room, room_for_stages, room_for_moves, SameLengths}
 use Rattle.stores.specs.Trays.{StagePut, MovePut, StageTaken, MoveTaken}
-use Rattle.stores.proofs.Areas.{Written, length-in_use, record_appended, record_replaced, record_taken}
+use Rattle.stores.specs.InUse.{length_in_use}
+use Rattle.stores.proofs.Areas.{Written, record_appended, record_replaced, record_taken}
 use Rattle.stores.proofs.Records.{stage_lawful, move_lawful}
 use Rattle.stores.proofs.Pieces.{pieces-with_cut}
 use Rattle.stores.proofs.Joints.{joined}
@@ -165,5 +166,5 @@ module _ (n k : ℕ) (a : Areas)
       let one = move_replaced n k a b p start j.into j.whole into put in
       let two = move_taken n k b c _ one m j.out_of some out taken in
       let three = stage_taken n m c d _ two j.stage j.stage last (omega arith) gone in
-      let long : length p.stages ≡ suc j.stage = length-in_use stage_layout n (vec_items a.stages) ∙ last in
+      let long : length p.stages ≡ suc j.stage = length_in_use stage_layout n (vec_items a.stages) ∙ last in
       edited_as three (ap (λ ss. prog ss (joined p j).moves) (removed_last p.stages j.stage long))

@@ -1,19 +1,20 @@
 -- What a view answers, from its table of new stages and the program below.
-use Rattle.std.proofs.Common.{◌≡◌, ℕ, zero, suc, ◌+◌, ◌-◌, ◌<◌, ◌≤◌, true, false, cond, leb, ◌⊎◌, List, [], ◌∷◌, ◌++◌, length, get_or, replicate, sym, refl, ap, ◌∙◌, subst, inl, inr, ⊎_elim, not-suc-le-zero, add-one, arith, length-append}
-use lib.ListN.{length-replicate}
+use Rattle.std.proofs.Common.{◌≡◌, ℕ, suc, ◌+◌, ◌-◌, ◌<◌, ◌≤◌, true, false, leb, ◌⊎◌, List, ◌++◌, length, get_or, replicate, sym, refl, ap, ◌∙◌, subst, inl, inr, ⊎_elim, add-one, arith}
 use Rattle.std.proofs.lemmas.List.{get_or_append_left, get_or-append_right, get_or-replicate}
-use Rattle.std.proofs.lemmas.Bool.{cases_Bool, cond-true, cond-false, le-leb, lt-leb, leb-true, and_from, and_left, and_right, and_parts}
+use Rattle.std.proofs.lemmas.Bool.{cases_Bool, le-leb, lt-leb, leb-true, and_from, and_left, and_right, and_parts}
 use Rattle.program.specs.declared.Stage.{Stage}
 use Rattle.program.specs.declared.Move.{Move}
-use Rattle.program.specs.Meaning.{Prog, Limits, Fits, empty, stage_at, move_at, no_stage, no_move, most_stages, most_moves}
+use Rattle.program.specs.Meaning.{Prog, Limits, empty, stage_at, move_at, no_stage, no_move, most_stages, most_moves}
 use Rattle.cutting.specs.Theorems.{Agree}
 use Rattle.program.specs.Graphs.{graph}
 use Rattle.views.specs.declared.minute.new_stages.NewStages.{NewStages}
 use Rattle.views.specs.Minutes.{made_by, inside, moves_by_minute, new_stages, silent_stage, minute_prog, within, if_within, minute_view}
 use Rattle.views.specs.Minutes.{ViewOf}
-use Rattle.views.specs.NewStages.{entry, Rising, table_moves, table_prog, viewed, ByMinutes, LengthsOf}
+use Rattle.views.specs.NewStages.{entry, table_prog, viewed, ByMinutes, LengthsOf}
 use Rattle.views.proofs.Minutes.{view_agrees}
-use Rattle.views.proofs.NewStages.{makes, length_table, table_move, table_fits, table_minutes, table_total, rises}
+use Rattle.views.specs.ViewLimits as limited
+use Rattle.views.specs.ViewLimits.{makes, rises}
+use Rattle.views.proofs.NewStages.{table_move, table_minutes, table_total}
 
 module _ (t : NewStages) (p : Prog) (lim : Limits p) where
   abbrev es : List ℕ
@@ -29,19 +30,16 @@ module _ (t : NewStages) (p : Prog) (lim : Limits p) where
   q = table_prog es p
 
   stages_q : length q.stages ≡ n + entry es c
-  stages_q =
-      length-append p.stages (replicate (entry es c) silent_stage)
-      ∙ ap (λ x. n + x) (length-replicate (entry es c) silent_stage)
+  stages_q = limited.stages_q es t.first t.rising p lim
 
   moves_q : length q.moves ≡ c + entry es c
-  moves_q =
-      let a = length_table es t.rising n 0 c p.moves (omega arith) lim.few_moves in omega arith
+  moves_q = limited.moves_q es t.first t.rising p lim
 
   shown : within q ≡ true → viewed es p ≡ q
-  shown h = cond-true (within q) q empty h
+  shown = limited.shown es t.first t.rising p lim
 
   hidden : within q ≡ false → viewed es p ≡ empty
-  hidden h = cond-false (within q) q empty h
+  hidden = limited.hidden es t.first t.rising p lim
 
   pub lengths_within : (s m : ℕ) → s ≡ n → m ≡ c → s + entry es m ≤ most_stages → m + entry es m ≤ most_moves
       → LengthsOf (viewed es p) (record { stages = s + entry es m; moves = m + entry es m })
@@ -135,26 +133,6 @@ module _ (t : NewStages) (p : Prog) (lim : Limits p) where
       (table_move es t.rising n 0 old k (k - entry es old - old) old p.moves lo (omega arith) (omega arith) (omega arith)
       (omega arith))
       ∙ sym (ap (λ (x : Prog). move_at x k) (shown (move_within k l)))
-
-  pub view_limits : Limits (viewed es p)
-  view_limits = ⊎_elim whole nothing (cases_Bool (within q))
-    where
-      nothing : within q ≡ false → Limits (viewed es p)
-      nothing h =
-          subst Limits (sym (hidden h))
-          (record { few_stages = omega arith; few_moves = omega arith; ends = λ k l. absurd (not-suc-le-zero l) })
-
-      whole : within q ≡ true → Limits (viewed es p)
-      whole h =
-          let i = and_parts (leb (length q.stages) most_stages) (leb (length q.moves) most_moves) h in
-          subst Limits (sym (shown h))
-          (record {
-            few_stages = leb-true (length q.stages) most_stages i.0;
-            few_moves = leb-true (length q.moves) most_moves i.1;
-            ends = λ k l.
-                table_fits es t.rising n 0 (length q.stages) c k p.moves
-                (λ j u. ((lim.ends j u).0, (lim.ends j u).1)) (omega arith) lim.few_moves stages_q l;
-          })
 
   -- a table that goes by the minutes
   pub view_of : ByMinutes es p → ViewOf p (viewed es p)

@@ -18,12 +18,12 @@ use Rattle.reader.specs.Answer as reader
 use Rattle.reader.proofs.Readings.{reading_from, one_reading_lem}
 use Rattle.tally.specs.Walks.{Has}
 use Rattle.sheet.specs.Sheets.{bit}
-use Rattle.check.specs.declared.faults.CheckFault.{CheckFault}
-use Rattle.check.specs.declared.faults.CheckFault.TheVariants.{Text, NoStage, DeadEnd, StillCycle, ShortMemory}
-use Rattle.check.specs.Outcomes.{Memory, Accepted, Outcome}
-use Rattle.check.specs.Checks.{Reads, Check}
-use Rattle.check.proofs.Exclusive.{one_number, not_made}
-use Rattle.check.proofs.Checks.{outcomes_exclusive_lem}
+use Rattle.checker.specs.declared.faults.CheckFault.{CheckFault}
+use Rattle.checker.specs.declared.faults.CheckFault.TheVariants.{Text, NoStage, DeadEnd, StillCycle, ShortMemory}
+use Rattle.checker.specs.Outcomes.{Memory, Accepted, Outcome}
+use Rattle.checker.specs.Checks.{Reads, Check}
+use Rattle.checker.proofs.Exclusive.{one_number, not_made}
+use Rattle.checker.proofs.Checks.{outcomes_exclusive_lem}
 use Rattle.worked.specs.Cases.{Answer, names, refused, Case, Shows, Refuses, Answered, Right}
 use Rattle.worked.proofs.Tests.{holds_at?, holds_at, fits?, reads_if, limits?, limits_if}
 use Rattle.worked.proofs.Tests.{checkable?, sound_of, checkable_if, still_at?, Still-at, still_at}

@@ -21,10 +21,10 @@ use Rattle.reader.specs.Grammar.{Reading}
 use Rattle.reader.specs.Answer.{longest}
 use Rattle.tally.specs.Walks.{Has}
 use Rattle.sheet.proofs.Sets.{timed_move_at, sound_within}
-use Rattle.check.specs.Outcomes.{Onward, AllOnward, Cycle, Checkable}
-use Rattle.check.specs.Checks.{Reads}
-use Rattle.check.proofs.Cycles.{cycle_next, has_place}
-use Rattle.check.proofs.Finds.{no_cycle}
+use Rattle.checker.specs.Outcomes.{Onward, AllOnward, Cycle, Checkable}
+use Rattle.checker.specs.Checks.{Reads}
+use Rattle.checker.proofs.Cycles.{cycle_next, has_place}
+use Rattle.checker.proofs.Finds.{no_cycle}
 
 -- The stages that a list of tests passes.
 

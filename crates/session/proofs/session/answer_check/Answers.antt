@@ -1,5 +1,5 @@
 use Rattle.std.proofs.Common.{◌≡◌, ◌-◌, length, take, ap, ◌∙◌, arith}
-use Rattle.check.specs.Outcomes.{memory}
+use Rattle.checker.specs.Outcomes.{memory}
 use Rattle.session.proofs.Memories.{blank, blank_enough}
 use Rattle.session.proofs.session.answer_check.Goals as goal
 

@@ -19,17 +19,17 @@ find-old-requires g c =
     record {
       few = omega arith;
       real = move_below t (g.P.Program.meaning x.program.now) h c.args.k
-          c.move-count.result (omega arith) c.move-count.ensures;
+          c.move_count.result (omega arith) c.move_count.ensures;
     }
 
-pub overflow-add-first : goal.overflow-add-first
-overflow-add-first g c =
+pub overflow_add-first : goal.overflow_add-first
+overflow_add-first g c =
     let x = c.args.self.now in
     let t = x.new_stages in
     let h = g.met.P.Program.limits x.program.now in
     let u =
     stages_below t (g.P.Program.meaning x.program.now) h c.args.k
-    c.find-old.result c.stage-count.result (omega arith) (omega arith) c.stage-count.ensures in
+    c.find-old.result c.stage_count.result (omega arith) (omega arith) c.stage_count.ensures in
     omega arith
 
 pub piece-requires : goal.piece-requires
@@ -40,7 +40,7 @@ piece-requires g c =
     record {
       place = omega arith;
       few = stages_below t (g.P.Program.meaning x.program.now) h c.args.k
-          c.find-old.result c.stage-count.result (omega arith) (omega arith) c.stage-count.ensures;
+          c.find-old.result c.stage_count.result (omega arith) (omega arith) c.stage_count.ensures;
     }
 
 pub returns : goal.returns
@@ -50,5 +50,5 @@ returns g c =
     let h = g.met.P.Program.limits x.program.now in
     c.piece.ensures
     ∙ new_move t (g.P.Program.meaning x.program.now) h c.args.k
-    c.find-old.result c.stage-count.result c.timed_move_at.result (omega arith) (omega arith)
-    c.stage-count.ensures c.timed_move_at.ensures (omega arith) (omega arith)
+    c.find-old.result c.stage_count.result c.move_at.result (omega arith) (omega arith)
+    c.stage_count.ensures c.move_at.ensures (omega arith) (omega arith)
