@@ -11,13 +11,13 @@ returns-in-Ok g c =
     memory c.args.sheet.now c.args.reached.now c.args.shortest.now
     c.args.longest.now in
     let after =
-    memory c.check-lines-of.new.sheet c.check-lines-of.new.reached c.check-lines-of.new.shortest
-    c.check-lines-of.new.longest in
+    memory c.check_lines_of.new.sheet c.check_lines_of.new.reached c.check_lines_of.new.shortest
+    c.check_lines_of.new.longest in
     let read = c.in-Ok.ensures in
-    let r = c.check-lines-of.result in
+    let r = c.check_lines_of.result in
     of_lines p c.args.text.now was after r (
       read.rule,
       record { short = read.short; reading = read.reading; small = read.small; few = read.few },
       subst (λ (ls : List Line). Outcome p ls was after r) (c.lines.ensures.value ∙ read.lines)
-          c.check-lines-of.ensures,
+          c.check_lines_of.ensures,
     )

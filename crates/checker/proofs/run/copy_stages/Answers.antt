@@ -12,4 +12,4 @@ returns g c =
     ext_get_or no_stage (take (length ys) xs) ys same
     (λ i h.
     let l : i < length ys = omega arith in
-    get_or-take (length ys) xs i no_stage l ∙ c.loop-s.invariant i (omega (arith, c.stage-count-s-end.ensures)))
+    get_or-take (length ys) xs i no_stage l ∙ c.loop-s.invariant i (omega (arith, c.stage_count-s-end.ensures)))

@@ -4,4 +4,4 @@ use Rattle.checker.specs.Found.{ahead, steps}
 use Rattle.checker.proofs.tests.follow.Given as goal
 
 abbrev pub invariant-loop-done : goal.invariant-loop-done
-invariant-loop-done l = l.at ≡ steps (ahead l.moves (among l.set)) l.-done l.s
+invariant-loop-done l = l.at ≡ steps (ahead l.moves (among l.set)) l._done l.s

@@ -33,17 +33,17 @@ pub returns-in-Some : goal.returns-in-Some
 returns-in-Some c =
     let stages = c.args.stages.now in
     let moves = c.args.moves.now in
-    let set = c.keep-endless.new.set in
+    let set = c.keep_endless.new.set in
     let found = c.in-Some.ensures in
     cycle_if stages moves c.requires.within (among set)
-    (left_rests stages moves c.requires.within set c.requires.few c.keep-endless.ensures.left)
+    (left_rests stages moves c.requires.within set c.requires.few c.keep_endless.ensures.left)
     c.in-Some.s found.0 found.1 c.follow.result c.follow.ensures
 
 pub returns-in-None : goal.returns-in-None
 returns-in-None c =
     let stages = c.args.stages.now in
     let moves = c.args.moves.now in
-    let set = c.keep-endless.new.set in
+    let set = c.keep_endless.new.set in
     no_cycle stages moves c.requires.within
-    (λ s l. sym (left_rests stages moves c.requires.within set c.requires.few c.keep-endless.ensures.left s l)
+    (λ s l. sym (left_rests stages moves c.requires.within set c.requires.few c.keep_endless.ensures.left s l)
     ∙ c.in-None.ensures s l)
