@@ -1,5 +1,6 @@
 -- What the tests of a program and of the memory find.
-use Rattle.std.specs.Prelude.{◌≡◌, ℕ, zero, suc, ◌*◌, ◌<◌, Bool, true, false, cond, List, [], ◌∷◌, length, Some, None, Option, ◌==◌, nat_le}
+use Rattle.std.specs.Prelude.{◌≡◌, ℕ, zero, suc, ◌*◌, ◌<◌, Bool, true, false, cond, List, [], ◌∷◌, length, Some, None}
+use Rattle.std.specs.Prelude.{Option, ◌==◌, nat_le}
 use Rattle.program.specs.declared.Move.{Move}
 use Rattle.program.specs.Meaning.{Prog}
 use Rattle.program.specs.Graphs.{timed_move}

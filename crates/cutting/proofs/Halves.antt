@@ -1,5 +1,6 @@
 -- A program in which one move of another is made by two refines it: a cut refines, and a join read backwards.
-use Rattle.std.proofs.Common.{◌≡◌, ℕ, zero, suc, ◌+◌, ◌<◌, ◌≤◌, Bool, true, false, T, eqb, ◌⊎◌, ◌↔◌, List, [], ◌∷◌, ◌++◌, map, length, get_or, sym, refl, ap, ◌∙◌, subst, ⊎_elim, arith}
+use Rattle.std.proofs.Common.{◌≡◌, ℕ, zero, suc, ◌<◌, ◌≤◌, Bool, true, false, T, eqb, ◌↔◌, List, [], ◌∷◌, ◌++◌, map}
+use Rattle.std.proofs.Common.{length, get_or, sym, refl, ap, ◌∙◌, subst, ⊎_elim, arith}
 use Rattle.std.proofs.lemmas.List.{length-map, map-append, get_or_push}
 use Rattle.std.proofs.lemmas.Bool.{eqb-true, eqb-false, eq-eqb}
 use Rattle.tctl.specs.Graph as timed
@@ -10,7 +11,6 @@ use Rattle.tctl.proofs.Refined.{sound_up, sound_down}
 use Rattle.program.specs.declared.Kind.{Kind}
 use Rattle.program.specs.declared.Kind.TheVariants.{Silent}
 use Rattle.program.specs.declared.Stage.{Stage}
-use Rattle.program.specs.declared.Move.{Move}
 use Rattle.program.specs.Meaning.{Prog, no_move, move_at}
 use Rattle.program.specs.Edits.{is_open, with_cut, with_join}
 use Rattle.program.specs.Graphs.{timed_stage, timed_move, graph}

@@ -3,7 +3,8 @@ use Rattle.std.proofs.Common.{ℕ, ltb, leb, length}
 use Rattle.std.proofs.lemmas.Bool.{cond_both, ltb-true, leb-true}
 use Rattle.program.specs.declared.EditFault.TheVariants.{NoMove, TooLong, StagesFull, MovesFull, NothingToJoin}
 use Rattle.program.specs.Meaning.{Prog, stage_at, move_at}
-use Rattle.program.specs.Edits.{Caps, Out, accepted, refused, is_open, with_cut, with_join, last_stage, cut_step, join_step}
+use Rattle.program.specs.Edits.{Caps, Out, accepted, refused, is_open, with_cut, with_join, last_stage, cut_step}
+use Rattle.program.specs.Edits.{join_step}
 use Rattle.program.specs.Graphs.{graph}
 use Rattle.program.specs.Tidy.{Tidy}
 use Rattle.program.proofs.Cuts.{cut_splits, join_splits}

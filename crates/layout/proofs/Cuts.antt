@@ -1,7 +1,9 @@
 -- Bytes are cut at their first mark in one way.
-use Rattle.std.proofs.Common.{◌≡◌, ℕ, zero, suc, ◌+◌, ◌-◌, ◌<◌, Bool, true, false, cond, eqb, List, [], ◌∷◌, ◌++◌, length, get_or, take, drop, sym, refl, ap, ◌∙◌, subst, arith}
+use Rattle.std.proofs.Common.{◌≡◌, ℕ, zero, suc, ◌+◌, ◌-◌, ◌<◌, Bool, true, false, cond, eqb, List, [], ◌∷◌, ◌++◌}
+use Rattle.std.proofs.Common.{length, get_or, take, drop, sym, refl, ap, ◌∙◌, subst, arith}
 use borrow.Author.Tests.{eqb-false, both_ways}
-use Rattle.std.proofs.lemmas.List.{take-append-drop, drop_more, take_rest, get_or-take, length-take-le, length-append, get_or_at}
+use Rattle.std.proofs.lemmas.List.{take-append-drop, drop_more, take_rest, get_or-take, length-take-le, length-append}
+use Rattle.std.proofs.lemmas.List.{get_or_at}
 use Rattle.layout.specs.Splits.{Lacks}
 
 pub cut_at : (xs : List ℕ) (i mark : ℕ) → i < length xs → get_or xs i 0 ≡ mark

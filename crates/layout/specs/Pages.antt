@@ -1,5 +1,6 @@
 -- Pages: lines in their order, and the edits that they make in a store.
-use Rattle.std.specs.Prelude.{◌≡◌, ℕ, ◌+◌, ◌<◌, ◌≤◌, List, [], ◌∷◌, ◌++◌, map, length, Some, None, Ok, Err, Option, Result, ◌≢◌}
+use Rattle.std.specs.Prelude.{◌≡◌, ℕ, ◌+◌, ◌<◌, ◌≤◌, List, [], ◌∷◌, ◌++◌, map, length, Some, None, Ok, Err, Option}
+use Rattle.std.specs.Prelude.{Result, ◌≢◌}
 use Rattle.std.specs.Borrow.{Bor}
 use Rattle.program.specs.declared.EditFault.{EditFault}
 use Rattle.program.specs.Meaning.{Prog}

@@ -1,5 +1,6 @@
 -- The bytes of the answers to a page.
-use Rattle.std.specs.Prelude.{ℕ, ◌+◌, ◌-◌, ◌/◌, ◌%◌, ◌^◌, ◌≤◌, Bool, cond, List, [], ◌∷◌, ◌++◌, Ok, Err, codes, decimal, Result, ◌==◌}
+use Rattle.std.specs.Prelude.{ℕ, ◌+◌, ◌-◌, ◌/◌, ◌%◌, ◌^◌, ◌≤◌, Bool, cond, List, [], ◌∷◌, ◌++◌, Ok, Err, codes, decimal}
+use Rattle.std.specs.Prelude.{Result, ◌==◌}
 use Rattle.checker.specs.declared.faults.CheckFault.{CheckFault}
 use Rattle.checker.specs.Faults as check
 use Rattle.page.specs.declared.faults.ConsoleFault.{ConsoleFault}

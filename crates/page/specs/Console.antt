@@ -1,5 +1,6 @@
 -- What the console answers to the rules of a page: which stages a rule holds at, or why it is refused.
-use Rattle.std.specs.Prelude.{◌≡◌, ℕ, ◌+◌, ◌<◌, ◌≤◌, Bool, ◌⊎◌, ◌↔◌, List, [], ◌∷◌, ◌++◌, length, is_ok, Some, None, Ok, Err, Option}
+use Rattle.std.specs.Prelude.{◌≡◌, ℕ, ◌+◌, ◌<◌, ◌≤◌, Bool, ◌⊎◌, ◌↔◌, List, [], ◌∷◌, ◌++◌, length, is_ok, Some, None, Ok}
+use Rattle.std.specs.Prelude.{Err, Option}
 use Rattle.std.specs.Borrow.{Bor}
 use Rattle.tctl.specs.Rules as tree
 use Rattle.tctl.specs.Holds.{Holds}

@@ -1,5 +1,6 @@
 -- What one step of a reader keeps.
-use Rattle.std.proofs.Common.{◌≡◌, ℕ, ◌-◌, ◌<◌, ◌≤◌, List, [], ◌∷◌, length, Option, sym, refl, ap, ◌∙◌, subst, arith, Bor}
+use Rattle.std.proofs.Common.{◌≡◌, ℕ, ◌-◌, ◌<◌, ◌≤◌, List, [], ◌∷◌, length, Option, sym, refl, ap, ◌∙◌, subst, arith}
+use Rattle.std.proofs.Common.{Bor}
 use Rattle.std.specs.declared.option.Option.TheVariants as option
 use Rattle.tctl.specs.Rules as tree
 use Rattle.tctl.specs.Rules.{Rule}

@@ -1,5 +1,6 @@
 -- What is known once a text is read to its end.
-use Rattle.std.proofs.Common.{◌≡◌, ℕ, ◌≤◌, Bool, true, false, ltb, List, [], length, take, MatchBool, Option, sym, refl, ap, ◌∙◌, subst, arith, ltb-false, ltb-true}
+use Rattle.std.proofs.Common.{◌≡◌, ℕ, ◌≤◌, Bool, true, false, ltb, List, [], length, take, MatchBool, Option, sym, refl}
+use Rattle.std.proofs.Common.{ap, ◌∙◌, subst, arith, ltb-false, ltb-true}
 use Rattle.std.specs.declared.option.Option.TheVariants as option
 use Rattle.std.specs.List.{AllByRecursion as All}
 use Rattle.tctl.specs.Rules as tree

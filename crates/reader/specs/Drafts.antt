@@ -1,5 +1,6 @@
 -- What a draft stands for: lines without limit, of which it keeps the first 32.
-use Rattle.std.specs.Prelude.{◌≡◌, ℕ, ◌+◌, ◌-◌, ◌<◌, ◌≤◌, min, true, cond, List, length, take, MatchBool, nat_lt, slice_set}
+use Rattle.std.specs.Prelude.{◌≡◌, ℕ, ◌+◌, ◌-◌, ◌<◌, ◌≤◌, min, true, cond, List, length, take, MatchBool, nat_lt}
+use Rattle.std.specs.Prelude.{slice_set}
 use Rattle.rules.specs.declared.line.Bound.{Bound}
 use Rattle.rules.specs.declared.line.Line.{Line}
 use Rattle.rules.specs.declared.line.Line.TheVariants.{Until}

@@ -1,5 +1,6 @@
 -- The lines of a rule are well formed where its letters are those from a to p and its numbers small.
-use Rattle.std.proofs.Common.{ℕ, ◌<◌, ◌≤◌, List, [], ◌∷◌, ◌++◌, length, get_or, sym, refl, subst, inl, inr, eq-or-lt_of_le, arith}
+use Rattle.std.proofs.Common.{ℕ, ◌<◌, ◌≤◌, List, [], ◌∷◌, ◌++◌, length, get_or, sym, refl, subst, inl, inr}
+use Rattle.std.proofs.Common.{eq-or-lt_of_le, arith}
 use Rattle.std.proofs.lemmas.List.{get_or_append_left, get_or_push, length_push}
 use Rattle.tctl.specs.Rules.{Rule, one, letter, not, both, either, some_run, each_run}
 use Rattle.rules.specs.declared.line.Quantifier.TheVariants.{Some, All}

@@ -1,5 +1,7 @@
 -- The main theorem, of any list of calls.
-use Rattle.std.proofs.Common.{◌≡◌, ℕ, zero, suc, ◌%◌, ◌^◌, ◌<◌, ◌≤◌, Bool, true, false, T, eqb, ltb, leb, ◌⊎◌, ◌↔◌, List, [], ◌∷◌, length, get_or, take, Ok, Err, vec_items, Result, sym, refl, ◌∙◌, subst, inl, inr, ⊎_elim, not-suc-le-zero, arith}
+use Rattle.std.proofs.Common.{◌≡◌, ℕ, zero, suc, ◌%◌, ◌^◌, ◌<◌, ◌≤◌, Bool, true, false, T, eqb, ltb, leb, ◌⊎◌, ◌↔◌}
+use Rattle.std.proofs.Common.{List, [], ◌∷◌, length, get_or, take, Ok, Err, vec_items, Result, sym, refl, ◌∙◌, subst}
+use Rattle.std.proofs.Common.{inl, inr, ⊎_elim, not-suc-le-zero, arith}
 use native.Mathlib.Nat.{zero-div}
 use Rattle.std.proofs.lemmas.List.{length-take, get_or-take, get_or_past}
 use Rattle.std.proofs.lemmas.Bool.{cases_eq, cases_lt, cond_both}

@@ -1,5 +1,6 @@
 -- What holds of any list of calls, and of the answers that were given to them.
-use Rattle.std.specs.Prelude.{◌≡◌, ℕ, ◌<◌, ◌≤◌, T, ◌↔◌, List, length, take, Ok, Err, vec_items, Result, Vec, slice_index, slice_index_or}
+use Rattle.std.specs.Prelude.{◌≡◌, ℕ, ◌<◌, ◌≤◌, T, ◌↔◌, List, length, take, Ok, Err, vec_items, Result, Vec}
+use Rattle.std.specs.Prelude.{slice_index, slice_index_or}
 use Rattle.std.specs.declared.alloc.Global.{Global}
 use Rattle.tctl.specs.Rules.{Rule}
 use Rattle.tctl.specs.Holds.{Holds}

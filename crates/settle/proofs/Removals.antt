@@ -1,5 +1,6 @@
 -- What a removal keeps when a stage comes to watch another move, and when it is gone.
-use Rattle.std.proofs.Common.{◌≡◌, ℕ, ◌+◌, ◌-◌, ◌<◌, ◌≤◌, Bool, false, T, ltb, ◌⊎◌, List, length, get_or, set, sym, refl, ap, ◌∙◌, subst, inl, inr, ⊎_elim, arith}
+use Rattle.std.proofs.Common.{◌≡◌, ℕ, ◌+◌, ◌-◌, ◌<◌, ◌≤◌, Bool, false, T, ltb, ◌⊎◌, List, length, get_or, set, sym}
+use Rattle.std.proofs.Common.{refl, ap, ◌∙◌, subst, inl, inr, ⊎_elim, arith}
 use Rattle.std.proofs.lemmas.List.{get_or-set_same, get_or-set_other}
 use Rattle.std.proofs.lemmas.Bool.{cases_eq, cases_lt}
 use Rattle.program.specs.declared.Move.{Move}
@@ -10,7 +11,8 @@ use Rattle.settle.specs.declared.links.End.TheVariants.{Leaves, Enters}
 use Rattle.settle.specs.declared.endless.Sort.{Sort}
 use Rattle.settle.specs.Chains.{end_at, Right}
 use Rattle.settle.specs.declared.removal.Removal.{Removal}
-use Rattle.settle.specs.Removals.{NoneAtOrPast, Watched, Watching, Due, Booked, Outside, Lasting, Inside, Shrinks, Removes, Rewatches}
+use Rattle.settle.specs.Removals.{NoneAtOrPast, Watched, Watching, Due, Booked, Outside, Lasting, Inside, Shrinks}
+use Rattle.settle.specs.Removals.{Removes, Rewatches}
 
 -- While a stage is left there is room for one more that is gone.
 pub room_left : (set : ℕ → Bool) (r : Removal) → Booked set r → (stage : ℕ) → stage < r.stages → T (set stage)

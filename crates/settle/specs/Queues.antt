@@ -1,5 +1,6 @@
 -- A queue of stages: which of them wait in it, and what putting one in and taking one out does.
-use Rattle.std.specs.Prelude.{◌≡◌, ℕ, ◌+◌, ◌%◌, ◌<◌, ◌≤◌, Bool, true, false, T, ◌⊎◌, Some, None, Option, slice_index, slice_index_or}
+use Rattle.std.specs.Prelude.{◌≡◌, ℕ, ◌+◌, ◌%◌, ◌<◌, ◌≤◌, Bool, true, false, T, ◌⊎◌, Some, None, Option, slice_index}
+use Rattle.std.specs.Prelude.{slice_index_or}
 use Rattle.program.specs.Meaning.{most_stages}
 use Rattle.settle.specs.declared.queue.Queue.{Queue}
 

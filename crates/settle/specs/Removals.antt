@@ -1,5 +1,6 @@
 -- The removal of stages from a set: what each stage that is left watches, and which stages are gone.
-use Rattle.std.specs.Prelude.{◌≡◌, ℕ, ◌+◌, ◌-◌, ◌<◌, ◌≤◌, Bool, T, ◌⊎◌, List, length, get_or, Some, None, Option, ◌≢◌, slice_index, slice_index_or}
+use Rattle.std.specs.Prelude.{◌≡◌, ℕ, ◌+◌, ◌-◌, ◌<◌, ◌≤◌, Bool, T, ◌⊎◌, List, length, get_or, Some, None, Option, ◌≢◌}
+use Rattle.std.specs.Prelude.{slice_index, slice_index_or}
 use Rattle.program.specs.declared.Move.{Move}
 use Rattle.program.specs.Meaning.{no_move, most_stages}
 use Rattle.program.specs.Graphs.{timed_move}

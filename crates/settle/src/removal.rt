@@ -1,6 +1,7 @@
 // The removal of stages from a set, until each that is left has a move into what is left. Each such stage watches one of
 // its moves; when the stage that this move enters is removed, it looks for the next of its moves that leads into the set.
-ghost use Rattle.std.specs.Prelude.{◌≡◌, ℕ, ◌-◌, ◌<◌, ◌≤◌, Bool, true, false, T, ◌⊎◌, length, if◌then◌else◌, ◌≢◌, slice_index};
+ghost use Rattle.std.specs.Prelude.{◌≡◌, ℕ, ◌-◌, ◌<◌, ◌≤◌, Bool, true, false, T, ◌⊎◌, length, if◌then◌else◌, ◌≢◌};
+ghost use Rattle.std.specs.Prelude.{slice_index};
 ghost use Rattle.program.specs.Meaning.{most_stages};
 ghost use Rattle.program.specs.Graphs.{timed_move};
 ghost use Rattle.tally.specs.Walks.{among};
@@ -8,7 +9,8 @@ ghost use Rattle.settle.specs.declared.links.End.TheVariants.{Leaves, Enters};
 ghost use Rattle.settle.specs.Chains.{end_at, Linked, ChainsOf};
 ghost use Rattle.settle.specs.Queues.{Lined};
 ghost use Rattle.settle.specs.Rows.{sort_of};
-ghost use Rattle.settle.specs.Removals.{NoneAtOrPast, Outside, Booked, AllStages, Watching, Due, Removes, Removed, Rewatches, LooksAt};
+ghost use Rattle.settle.specs.Removals.{NoneAtOrPast, Outside, Booked, AllStages, Watching, Due, Removes, Removed};
+ghost use Rattle.settle.specs.Removals.{Rewatches, LooksAt};
 
 use crate::endless::Sort;
 use crate::links::{Chains, Links};

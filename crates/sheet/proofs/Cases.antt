@@ -1,5 +1,6 @@
 -- The rows that the untils compute are the theory's lists.
-use Rattle.std.proofs.Common.{◌≡◌, ℕ, suc, ◌-◌, ◌<◌, ◌≤◌, Bool, true, leb, List, map, length, get_or, sym, refl, ap, ◌∙◌, subst}
+use Rattle.std.proofs.Common.{◌≡◌, ℕ, suc, ◌-◌, ◌<◌, ◌≤◌, Bool, true, leb, List, map, length, get_or, sym, refl, ap}
+use Rattle.std.proofs.Common.{◌∙◌, subst}
 use Rattle.tally.specs.Algebras.{most_sum, reach_algebra, shortest_algebra, longest_algebra}
 use Rattle.tally.specs.Walks.{among, tallied}
 use Rattle.tally.specs.Rounds.{Within}
@@ -9,7 +10,8 @@ use Rattle.program.specs.declared.Stage as program
 use Rattle.program.specs.declared.Move.{Move}
 use Rattle.program.specs.Graphs.{timed_stage, timed_move}
 use Rattle.std.proofs.lemmas.List.{length-map}
-use Rattle.tctl.specs.Checker.{non, none, shortest, longest, tally, table, at, some?, most?, least?, open?, endless, into, any_move, some_list, each_list, ◌and◌, ◌or◌}
+use Rattle.tctl.specs.Checker.{non, none, shortest, longest, tally, table, at, some?, most?, least?, open?, endless}
+use Rattle.tctl.specs.Checker.{into, any_move, some_list, each_list, ◌and◌, ◌or◌}
 use Rattle.tctl.specs.Rules.{most, least}
 use Rattle.sheet.specs.Rows.{row, Says}
 use Rattle.sheet.specs.Told.{reaches, short_to, long_from}

@@ -1,8 +1,10 @@
 -- A gap in a list is closed by moving what lies behind it down, element by element.
-use Rattle.std.proofs.Common.{◌≡◌, ℕ, suc, ◌+◌, ◌-◌, ◌*◌, ◌<◌, ◌≤◌, List, ◌++◌, length, get_or, take, drop, set, replicate, sym, ap, ◌∙◌, mul-le-mul_left, mul-suc, arith}
+use Rattle.std.proofs.Common.{◌≡◌, ℕ, suc, ◌+◌, ◌-◌, ◌*◌, ◌<◌, ◌≤◌, List, ◌++◌, length, get_or, take, drop, set}
+use Rattle.std.proofs.Common.{replicate, sym, ap, ◌∙◌, mul-le-mul_left, mul-suc, arith}
 use lib.Seq.{paste}
 use Rattle.std.specs.List.{remove, between}
-use Rattle.std.proofs.lemmas.List.{append_assoc, length-drop, length-replicate, get_or-drop, drop-drop, drop-take, take-take}
+use Rattle.std.proofs.lemmas.List.{append_assoc, length-drop, length-replicate, get_or-drop, drop-drop, drop-take}
+use Rattle.std.proofs.lemmas.List.{take-take}
 use Rattle.stores.specs.Areas.{put, shifted, taken_out}
 use Rattle.std.proofs.lemmas.List.Edits.{paste_none, paste_more, length-paste, take-paste, drop-paste}
 

@@ -6,7 +6,8 @@ use Rattle.tally.specs.declared.Shortest.{Shortest}
 use Rattle.tally.specs.declared.Shortest.TheVariants as short
 use Rattle.tally.specs.declared.Longest.{Longest}
 use Rattle.tally.specs.declared.Longest.TheVariants as long
-use Rattle.tally.specs.Algebras.{Laws, reach_algebra, shortest_algebra, longest_algebra, either_reach, shorter, longer, short_after, long_after}
+use Rattle.tally.specs.Algebras.{Laws, reach_algebra, shortest_algebra, longest_algebra, either_reach, shorter, longer}
+use Rattle.tally.specs.Algebras.{short_after, long_after}
 
 reach_assoc : (a b c : Reach) → either_reach (either_reach a b) c ≡ either_reach a (either_reach b c)
 reach_assoc reach.Never b c = refl

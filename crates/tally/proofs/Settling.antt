@@ -1,6 +1,7 @@
 -- After as many rounds as there are stages, one more changes nothing: for reach and shortest always, and for longest
 -- where no walk has more moves than there are stages.
-use Rattle.std.proofs.Common.{◌≡◌, ℕ, zero, suc, ◌+◌, ◌<◌, ◌≤◌, min, Bool, T, ◌⊎◌, List, [], ◌∷◌, map, length, sym, refl, ap, ◌∙◌, subst, inl, inr, not-suc-le-zero, arith}
+use Rattle.std.proofs.Common.{◌≡◌, ℕ, zero, suc, ◌+◌, ◌<◌, ◌≤◌, min, Bool, T, ◌⊎◌, List, [], ◌∷◌, map, length, sym}
+use Rattle.std.proofs.Common.{refl, ap, ◌∙◌, subst, inl, inr, not-suc-le-zero, arith}
 use Rattle.std.proofs.lemmas.Bool.{cases_eq}
 use Rattle.tctl.specs.Graph as timed
 use Rattle.tctl.specs.Graph.{size, count, move_at}

@@ -1,5 +1,6 @@
 -- Rounds: from what is said of the walks of at most k moves to what is said of those of at most k + 1.
-use Rattle.std.specs.Prelude.{◌≡◌, ℕ, zero, suc, ◌+◌, ◌<◌, ◌≤◌, Bool, cond, List, [], ◌∷◌, length, get_or, ◌==◌, slice_index_or}
+use Rattle.std.specs.Prelude.{◌≡◌, ℕ, zero, suc, ◌+◌, ◌<◌, ◌≤◌, Bool, cond, List, [], ◌∷◌, length, get_or, ◌==◌}
+use Rattle.std.specs.Prelude.{slice_index_or}
 use Rattle.program.specs.declared.Move.{Move}
 use Rattle.program.specs.Meaning.{no_move}
 use Rattle.tally.specs.Algebras.{Algebra}

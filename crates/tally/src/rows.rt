@@ -2,7 +2,8 @@
 // row what the round makes of it.
 ghost use Rattle.std.specs.Prelude.{◌≡◌, ℕ, ◌+◌, ◌*◌, ◌<◌, ◌≤◌, true, length, ◌≢◌};
 ghost use Rattle.tally.specs.Walks.{among, tallied, AllWalks};
-ghost use Rattle.tally.specs.Rounds.{begins, round, rounds, Within, entry, KeptBelow, KeptFrom, Written, Holding, poured, all_poured};
+ghost use Rattle.tally.specs.Rounds.{begins, round, rounds, Within, entry, KeptBelow, KeptFrom, Written, Holding};
+ghost use Rattle.tally.specs.Rounds.{poured, all_poured};
 ghost use Rattle.tally.specs.Sweeps.{ChosenOfAll};
 ghost use Rattle.tally.specs.Tables.{Filled};
 

@@ -1,5 +1,6 @@
 -- A tally with a cap.
-use Rattle.std.proofs.Common.{◌≡◌, ℕ, zero, suc, Bool, true, false, cond, eqb, List, [], ◌∷◌, get_or, sym, refl, ap, ◌∙◌, arith}
+use Rattle.std.proofs.Common.{◌≡◌, ℕ, zero, suc, Bool, true, false, cond, eqb, List, [], ◌∷◌, get_or, sym, refl, ap}
+use Rattle.std.proofs.Common.{◌∙◌, arith}
 use Rattle.tctl.specs.Graph.{Move, size}
 use Rattle.tctl.specs.Checker.{Entry, none, sum, Kind, shortest, longest, choice, after, over, begin, tally, tab_from}
 use Rattle.tctl.specs.Checker.{at, after_cap, over_cap, tally_cap, capped}

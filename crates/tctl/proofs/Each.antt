@@ -1,5 +1,6 @@
 -- Where A[f U g] holds: the lists of the checker have the stages from which each run meets the until.
-use Rattle.std.proofs.Common.{◌≡◌, ℕ, zero, suc, ◌+◌, ◌-◌, ◌<◌, ◌≤◌, Bool, true, T, leb, ◌⊎◌, List, get_or, sym, subst, inl, inr, ⊎_elim, arith, le→leb, leb→le}
+use Rattle.std.proofs.Common.{◌≡◌, ℕ, zero, suc, ◌+◌, ◌-◌, ◌<◌, ◌≤◌, Bool, true, T, leb, ◌⊎◌, List, get_or, sym, subst}
+use Rattle.std.proofs.Common.{inl, inr, ⊎_elim, arith, le→leb, leb→le}
 use Rattle.std.proofs.lemmas.Bool.{cases_eq, cases_lt}
 use Rattle.tctl.specs.Graph.{Graph, Open, size, count, move_at}
 use Rattle.tctl.specs.Runs.{Run, stage_on, time_on, Sound}

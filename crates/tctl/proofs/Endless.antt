@@ -1,5 +1,6 @@
 -- The stages from which a set need never be left.
-use Rattle.std.proofs.Common.{◌≡◌, ℕ, zero, suc, ◌+◌, ◌<◌, ◌≤◌, Bool, true, T, eqb, ◌⊎◌, List, [], ◌∷◌, length, sym, subst, inl, inr, ⊎_elim, not-suc-le-zero, arith, eqb→eq}
+use Rattle.std.proofs.Common.{◌≡◌, ℕ, zero, suc, ◌+◌, ◌<◌, ◌≤◌, Bool, true, T, eqb, ◌⊎◌, List, [], ◌∷◌, length, sym}
+use Rattle.std.proofs.Common.{subst, inl, inr, ⊎_elim, not-suc-le-zero, arith, eqb→eq}
 use lib.Dec.{eqb_refl}
 use Rattle.tctl.specs.Graph.{Graph, Move, size, count, move_at}
 use Rattle.tctl.specs.Runs.{Run, stage_on, time_on, Sound}

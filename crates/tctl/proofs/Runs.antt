@@ -1,5 +1,6 @@
 -- Runs and walks.
-use Rattle.std.proofs.Common.{◌≡◌, ℕ, zero, suc, ◌+◌, ◌<◌, Bool, T, sym, ap, ◌∙◌, subst, inl, inr, not-suc-le-zero, add-zero, add-suc, arith}
+use Rattle.std.proofs.Common.{◌≡◌, ℕ, zero, suc, ◌+◌, ◌<◌, Bool, T, sym, ap, ◌∙◌, subst, inl, inr, not-suc-le-zero}
+use Rattle.std.proofs.Common.{add-zero, add-suc, arith}
 use Rattle.tctl.specs.Graph.{Graph, Move, size, count, move_at}
 use Rattle.tctl.specs.Runs.{Run, stage_on, time_on, Sound}
 use Rattle.tctl.proofs.Sums.{sum_none}

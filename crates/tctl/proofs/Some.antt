@@ -9,7 +9,7 @@ use Rattle.tctl.specs.Checker.{open?, some?, most?, least?, some_list}
 use Rattle.tctl.proofs.Basics.{passes, and_l, and_r, and_i, or_e, or_l, or_r, non_e, non_i, table_e, table_i}
 use Rattle.tctl.proofs.Reach.{Reach, widen, within_size}
 use Rattle.tctl.proofs.Tally.{tally_e, tally_i}
-use Rattle.tctl.proofs.Runs.{run_reach, reach_run, some_run, before}
+use Rattle.tctl.proofs.Runs.{run_reach, reach_run, some_run}
 use Rattle.tctl.proofs.Endless.{in_set, stay, rank, late}
 use Rattle.tctl.proofs.Common.{Tells, open_fits, run_fits, some_e, some_i, most_e, most_i, least_e, least_i, join}
 use Rattle.tctl.proofs.Common.{avoid, most_closed, least_closed}

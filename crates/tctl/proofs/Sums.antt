@@ -1,5 +1,6 @@
 -- Sums of any weight over the moves of a way.
-use Rattle.std.proofs.Common.{◌≡◌, ℕ, zero, suc, ◌+◌, ◌<◌, ◌≤◌, sym, refl, ap, subst, not-suc-le-zero, suc-add, zero-add, arith}
+use Rattle.std.proofs.Common.{◌≡◌, ℕ, zero, suc, ◌+◌, ◌<◌, ◌≤◌, sym, refl, ap, subst, not-suc-le-zero, suc-add}
+use Rattle.std.proofs.Common.{zero-add, arith}
 use mathlib.Core.Path.{fun_ext}
 use Rattle.tctl.specs.Graph.{Graph, Move, move_at}
 use Rattle.tctl.specs.Runs.{sum_on}

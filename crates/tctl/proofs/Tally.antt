@@ -1,5 +1,6 @@
 -- The tally's entry after k turns is the choice over the walks of at most k moves.
-use Rattle.std.proofs.Common.{◌≡◌, ℕ, zero, suc, ◌+◌, ◌<◌, ◌≤◌, min, max, Bool, true, false, cond, T, eqb, ◌⊎◌, List, [], ◌∷◌, length, get_or, sym, subst, inl, inr, ⊎_elim, not-suc-le-zero, arith, eqb→eq}
+use Rattle.std.proofs.Common.{◌≡◌, ℕ, zero, suc, ◌+◌, ◌<◌, ◌≤◌, min, max, Bool, true, false, cond, T, eqb, ◌⊎◌, List}
+use Rattle.std.proofs.Common.{[], ◌∷◌, length, get_or, sym, subst, inl, inr, ⊎_elim, not-suc-le-zero, arith, eqb→eq}
 use lib.Dec.{eqb_refl}
 use Rattle.std.proofs.lemmas.Bool.{cases_lt}
 use Rattle.tctl.specs.Graph.{Graph, Move, size, move_at}

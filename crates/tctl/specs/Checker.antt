@@ -1,5 +1,6 @@
 -- The checker, as a definition that computes: sets and tallies are lists, an entry for each stage.
-use Rattle.std.specs.Prelude.{ℕ, zero, suc, ◌+◌, ◌-◌, min, max, Bool, true, false, cond, eqb, ltb, leb, List, [], ◌∷◌, get_or, ◌==◌, nat_le}
+use Rattle.std.specs.Prelude.{ℕ, zero, suc, ◌+◌, ◌-◌, min, max, Bool, true, false, cond, eqb, ltb, leb, List, [], ◌∷◌}
+use Rattle.std.specs.Prelude.{get_or, ◌==◌, nat_le}
 use Rattle.tctl.specs.Graph.{Graph, Move, stage_at, move_at, size, count}
 use Rattle.tctl.specs.Rules.{Rule, Bound, one, letter, not, both, either, some_run, each_run, most, least}
 use Rattle.tctl.specs.Holds.{marked}

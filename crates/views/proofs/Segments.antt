@@ -1,5 +1,6 @@
 -- The stages and moves of a list of segments, place by place.
-use Rattle.std.proofs.Common.{◌≡◌, ℕ, zero, suc, ◌+◌, ◌*◌, ◌<◌, ◌≤◌, List, [], ◌∷◌, length, get_or, drop, refl, ap, not-suc-le-zero, arith}
+use Rattle.std.proofs.Common.{◌≡◌, ℕ, zero, suc, ◌+◌, ◌*◌, ◌<◌, ◌≤◌, List, [], ◌∷◌, length, get_or, drop, refl, ap}
+use Rattle.std.proofs.Common.{not-suc-le-zero, arith}
 use Rattle.std.proofs.lemmas.List.{drop_all}
 use Rattle.program.specs.declared.Kind.TheVariants.{Open}
 use Rattle.program.specs.Meaning.{no_stage, no_move}

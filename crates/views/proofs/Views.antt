@@ -1,5 +1,6 @@
 -- What a view answers, from its table of new stages and the program below.
-use Rattle.std.proofs.Common.{◌≡◌, ℕ, suc, ◌+◌, ◌-◌, ◌<◌, ◌≤◌, true, false, leb, ◌⊎◌, List, ◌++◌, length, get_or, replicate, sym, refl, ap, ◌∙◌, subst, inl, inr, ⊎_elim, add-one, arith}
+use Rattle.std.proofs.Common.{◌≡◌, ℕ, suc, ◌+◌, ◌-◌, ◌<◌, ◌≤◌, true, false, leb, ◌⊎◌, List, ◌++◌, length, get_or}
+use Rattle.std.proofs.Common.{replicate, sym, refl, ap, ◌∙◌, subst, inl, inr, ⊎_elim, add-one, arith}
 use Rattle.std.proofs.lemmas.List.{get_or_append_left, get_or-append_right, get_or-replicate}
 use Rattle.std.proofs.lemmas.Bool.{cases_Bool, le-leb, lt-leb, leb-true, and_from, and_left, and_right, and_parts}
 use Rattle.program.specs.declared.Stage.{Stage}
@@ -8,7 +9,8 @@ use Rattle.program.specs.Meaning.{Prog, Limits, empty, stage_at, move_at, no_sta
 use Rattle.cutting.specs.Theorems.{Agree}
 use Rattle.program.specs.Graphs.{graph}
 use Rattle.views.specs.declared.minute.new_stages.NewStages.{NewStages}
-use Rattle.views.specs.Minutes.{made_by, inside, moves_by_minute, new_stages, silent_stage, minute_prog, within, if_within, minute_view}
+use Rattle.views.specs.Minutes.{made_by, inside, moves_by_minute, new_stages, silent_stage, minute_prog, within}
+use Rattle.views.specs.Minutes.{if_within, minute_view}
 use Rattle.views.specs.Minutes.{ViewOf}
 use Rattle.views.specs.NewStages.{entry, table_prog, viewed, ByMinutes, LengthsOf}
 use Rattle.views.proofs.Minutes.{view_agrees}

@@ -1,6 +1,7 @@
 -- The minute program of a program: each move of two minutes and more is made by moves of one minute. What a view of
 -- it promises.
-use Rattle.std.specs.Prelude.{◌≡◌, ℕ, zero, suc, ◌+◌, ◌-◌, min, Bool, true, cond, ◌&&◌, List, [], ◌∷◌, ◌++◌, length, replicate, nat_le}
+use Rattle.std.specs.Prelude.{◌≡◌, ℕ, zero, suc, ◌+◌, ◌-◌, min, Bool, true, cond, ◌&&◌, List, [], ◌∷◌, ◌++◌, length}
+use Rattle.std.specs.Prelude.{replicate, nat_le}
 use Rattle.cutting.specs.Minute.{minute}
 use Rattle.cutting.specs.Theorems.{Agree}
 use Rattle.program.specs.declared.Kind.TheVariants.{Silent}

@@ -1,6 +1,8 @@
 -- A view keeps what every readable program keeps, if the program below does: its moves lead between its stages.
-use Rattle.std.specs.Prelude.{◌≡◌, ℕ, zero, suc, ◌+◌, ◌-◌, ◌<◌, ◌≤◌, min, true, false, List, [], ◌∷◌, length, replicate, refl}
-use Rattle.std.proofs.Common.{◌⊎◌, get_or, leb, sym, ap, ◌∙◌, subst, inl, inr, ⊎_elim, not-suc-le-zero, arith, length-append}
+use Rattle.std.specs.Prelude.{◌≡◌, ℕ, zero, suc, ◌+◌, ◌-◌, ◌<◌, ◌≤◌, min, true, false, List, [], ◌∷◌, length, replicate}
+use Rattle.std.specs.Prelude.{refl}
+use Rattle.std.proofs.Common.{◌⊎◌, get_or, leb, sym, ap, ◌∙◌, subst, inl, inr, ⊎_elim, not-suc-le-zero, arith}
+use Rattle.std.proofs.Common.{length-append}
 use Rattle.std.proofs.lemmas.List.{length-replicate, get_or_append_left, get_or-append_right}
 use Rattle.std.proofs.lemmas.Bool.{cases_Bool, cases_lt, cond-true, cond-false, leb-true, and_parts}
 use Rattle.program.specs.declared.Move.{Move}

@@ -1,5 +1,6 @@
 -- A row that passes its tests is right.
-use Rattle.std.proofs.Common.{◌≡◌, ℕ, ◌<◌, Bool, true, false, T, eqb, ◌↔◌, List, [], ◌∷◌, map, length, get_or, Ok, Err, codes, Result, sym, refl, subst, arith, eqb→eq}
+use Rattle.std.proofs.Common.{◌≡◌, ℕ, ◌<◌, Bool, true, false, T, eqb, ◌↔◌, List, [], ◌∷◌, map, length, get_or, Ok, Err}
+use Rattle.std.proofs.Common.{codes, Result, sym, refl, subst, arith, eqb→eq}
 use Rattle.std.specs.List.{AllByRecursion as All}
 use Rattle.tctl.specs.Rules.{Rule}
 use Rattle.tctl.specs.Holds.{Holds}

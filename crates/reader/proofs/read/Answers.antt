@@ -17,7 +17,7 @@ invariant_of-result c =
     subst (Judged c.args.text.now c.read_rule.new.draft) (sym c.in-None.ensures)
     (judged c.in-Some.ensures c.new-draft.ensures (omega arith) _ _ c.ends.ensures
     c.crowded.ensures) in
-    record { full = c.read_rule.new.draft.full; room = k.room; formed = ∣ formed k ∣₁; }
+    record { full = c.read_rule.new.draft.full; room = k.room; formed = ∣ formed k ∣₁ }
 
 pub returns-in-None : goal.returns-in-None
 returns-in-None c =

@@ -1,5 +1,5 @@
-use Rattle.std.proofs.Common.{◌≤◌, length, arith, ltb-false, ltb-true}
-use Rattle.signs.proofs.Lexing.{some_digit, no_digit}
+use Rattle.std.proofs.Common.{◌≤◌, length, arith, ltb-false}
+use Rattle.signs.proofs.Lexing.{some_digit}
 use Rattle.signs.proofs.digit_first.Goals as goal
 
 pub returns-in-48-to-57 : goal.returns-in-48-to-57

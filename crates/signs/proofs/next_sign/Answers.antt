@@ -1,7 +1,8 @@
 use Rattle.std.proofs.Common.{◌≤◌, get_or, sym, refl, ◌∙◌, arith, ltb-false, ltb-true}
 use Rattle.signs.proofs.Lexing.{taken, zero_takes, plain_takes, number_found, empty_signs}
 use Rattle.signs.proofs.next_sign.Goals as goal
-use Rattle.signs.proofs.next_sign.Goals.{in_default-2-via-then-this-lt48, in_default-2-via-else-this-lt48+else-this-lt58}
+use Rattle.signs.proofs.next_sign.Goals.{in_default-2-via-then-this-lt48}
+use Rattle.signs.proofs.next_sign.Goals.{in_default-2-via-else-this-lt48+else-this-lt58}
 
 pub returns-in_default : goal.returns-in_default
 returns-in_default c = sym c.skip_spaces-text.ensures.same ∙ empty_signs _ (omega (arith, ltb-true))

@@ -1,7 +1,7 @@
-use Rattle.std.proofs.Common.{◌≡◌, ◌≤◌, length, get_or, drop, sym, ap, ◌∙◌, arith, ltb-false, ltb-true}
+use Rattle.std.proofs.Common.{◌≤◌, length, get_or, drop, ap, ◌∙◌, arith, ltb-false}
 use Rattle.std.proofs.lemmas.List.{take_rest}
 use Rattle.signs.specs.Signs.{value, run, cap}
-use Rattle.signs.proofs.Lexing.{value_more, run_more, no_digit}
+use Rattle.signs.proofs.Lexing.{value_more, run_more}
 use Rattle.signs.proofs.number.Goals as goal
 
 pub loop-text-preserved : goal.loop-text-preserved

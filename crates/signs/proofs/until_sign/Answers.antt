@@ -4,7 +4,8 @@ use Rattle.signs.specs.declared.Sign.TheVariants.{Until, UntilAtMost, UntilAtLea
 use Rattle.signs.proofs.Lexing.{takes, pair_no, pair_yes, until_plain, until_most, until_least}
 use Rattle.signs.proofs.until_sign.Goals as goal
 use Rattle.signs.proofs.until_sign.Goals.{in_default-via-then-rest-lt2, in_default-via-else-rest-lt2+in-60+in_default-1}
-use Rattle.signs.proofs.until_sign.Goals.{in_default-via-else-rest-lt2+in-62+in_default-1, in_default-via-else-rest-lt2+in_default-1}
+use Rattle.signs.proofs.until_sign.Goals.{in_default-via-else-rest-lt2+in-62+in_default-1}
+use Rattle.signs.proofs.until_sign.Goals.{in_default-via-else-rest-lt2+in_default-1}
 
 pub returns-in-60 : goal.returns-in-60
 returns-in-60 c =

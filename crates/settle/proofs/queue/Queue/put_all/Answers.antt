@@ -5,7 +5,8 @@ use Rattle.settle.specs.declared.queue.Queue.{Queue}
 use Rattle.settle.specs.Queues.{Lined, AllWait}
 use Rattle.settle.proofs.Queues.{lined_more, all_wait_more}
 use Rattle.settle.proofs.queue.Queue.put_all.Goals as goal
-use Rattle.settle.proofs.queue.Queue.put_all.Goals.{else-set-stage-gt0-via-then-set-stage-gt0+else-not-put, else-set-stage-gt0-via-else-set-stage-gt0}
+use Rattle.settle.proofs.queue.Queue.put_all.Goals.{else-set-stage-gt0-via-then-set-stage-gt0+else-not-put}
+use Rattle.settle.proofs.queue.Queue.put_all.Goals.{else-set-stage-gt0-via-else-set-stage-gt0}
 
 pub returns-then-not-put : goal.returns-then-not-put
 returns-then-not-put c =

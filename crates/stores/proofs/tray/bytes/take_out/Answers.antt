@@ -1,4 +1,5 @@
-use Rattle.std.proofs.Common.{◌≡◌, ℕ, suc, ◌+◌, ◌-◌, ◌*◌, ◌<◌, ◌≤◌, length, replicate, sym, ap, ◌∙◌, mul-le-mul_left, mul-suc, arith}
+use Rattle.std.proofs.Common.{◌≡◌, ℕ, suc, ◌+◌, ◌-◌, ◌*◌, ◌<◌, ◌≤◌, length, replicate, sym, ap, ◌∙◌, mul-le-mul_left}
+use Rattle.std.proofs.Common.{mul-suc, arith}
 use Rattle.stores.specs.Areas.{put}
 use Rattle.stores.proofs.Gaps.{shifted-taken_out}
 use Rattle.stores.proofs.tray.bytes.take_out.Goals as goal
