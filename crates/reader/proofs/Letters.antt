@@ -1,6 +1,6 @@
 -- A part whose signs name letters from a to p is a tree with such letters.
 use Rattle.std.proofs.Common.{List, ◌∷◌}
-use Rattle.std.specs.List.{AllByRecursion as All}
+use Rattle.std.specs.List.{AllByRecursion}
 use Rattle.tctl.specs.Rules.{Rule}
 use Rattle.rules.specs.declared.line.Bound.{Bound}
 use Rattle.rules.specs.declared.line.Bound.TheVariants.{AtMost, AtLeast}
@@ -16,7 +16,7 @@ use Rattle.reader.specs.Parts.{items, no_item, amp, one, letter, not, round, unt
 use Rattle.reader.specs.Parts.{spell_formula, spell_terms, spell_term, spell_items, spell_item, tree_formula}
 use Rattle.reader.specs.Parts.{tree_terms, tree_term, tree_items, tree_item}
 
-limit_fair : (b : Limit) (ss : List Sign) → All Fair (spell_limit b ss) → All Fair ss
+limit_fair : (b : Limit) (ss : List Sign) → AllByRecursion Fair (spell_limit b ss) → AllByRecursion Fair ss
 limit_fair plain ss a = a.1
 limit_fair (at_most n) ss a = a.1.1
 limit_fair (at_least n) ss a = a.1.1
@@ -30,32 +30,32 @@ until_lettered Every (AtLeast c) f g x y = (x, y)
 mutual
   unfolding spell_formula tree_formula
 
-  pub formula_lettered : (f : Formula) (ss : List Sign) → All Fair (spell_formula f ss)
-      → Lettered (tree_formula f) × All Fair ss
+  pub formula_lettered : (f : Formula) (ss : List Sign) → AllByRecursion Fair (spell_formula f ss)
+      → Lettered (tree_formula f) × AllByRecursion Fair ss
   formula_lettered (terms t ts) ss a =
       let x = term_lettered t (spell_terms ts ss) a in
       terms_lettered ts (tree_term t) ss x.0 x.1
 
-  terms_lettered : (ts : Terms) (f : Rule) (ss : List Sign) → Lettered f → All Fair (spell_terms ts ss)
-      → Lettered (tree_terms ts f) × All Fair ss
+  terms_lettered : (ts : Terms) (f : Rule) (ss : List Sign) → Lettered f → AllByRecursion Fair (spell_terms ts ss)
+      → Lettered (tree_terms ts f) × AllByRecursion Fair ss
   terms_lettered no_term f ss l a = (l, a)
   terms_lettered (bar t ts) f ss l a =
       let x = term_lettered t (spell_terms ts ss) a.1 in
       terms_lettered ts _ ss (l, x.0) x.1
 
-  term_lettered : (t : Term) (ss : List Sign) → All Fair (spell_term t ss) → Lettered (tree_term t) × All Fair ss
+  term_lettered : (t : Term) (ss : List Sign) → AllByRecursion Fair (spell_term t ss) → Lettered (tree_term t) × AllByRecursion Fair ss
   term_lettered (items i is) ss a =
       let x = item_lettered i (spell_items is ss) a in
       items_lettered is (tree_item i) ss x.0 x.1
 
-  items_lettered : (is : Items) (f : Rule) (ss : List Sign) → Lettered f → All Fair (spell_items is ss)
-      → Lettered (tree_items is f) × All Fair ss
+  items_lettered : (is : Items) (f : Rule) (ss : List Sign) → Lettered f → AllByRecursion Fair (spell_items is ss)
+      → Lettered (tree_items is f) × AllByRecursion Fair ss
   items_lettered no_item f ss l a = (l, a)
   items_lettered (amp i is) f ss l a =
       let x = item_lettered i (spell_items is ss) a.1 in
       items_lettered is _ ss (l, x.0) x.1
 
-  item_lettered : (i : Item) (ss : List Sign) → All Fair (spell_item i ss) → Lettered (tree_item i) × All Fair ss
+  item_lettered : (i : Item) (ss : List Sign) → AllByRecursion Fair (spell_item i ss) → Lettered (tree_item i) × AllByRecursion Fair ss
   item_lettered one ss a = (tt, a.1)
   item_lettered (letter k) ss a = (a.0, a.1)
   item_lettered (not i) ss a = item_lettered i ss a.1

@@ -1,6 +1,6 @@
 -- A reading of a text, in the grammar and as the readers take it.
 use Rattle.std.proofs.Common.{◌≡◌, ℕ, List, [], sym, ap, ◌∙◌, arith}
-use Rattle.std.specs.List.{AllByRecursion as All}
+use Rattle.std.specs.List.{AllByRecursion}
 use Rattle.std.proofs.ByRecursion.{All-append}
 use Rattle.std.proofs.lemmas.List.{append-nil}
 use Rattle.tctl.specs.Rules.{Rule, Bound}
@@ -16,15 +16,15 @@ use Rattle.reader.specs.Parts.{Formula, spell_formula, tree_formula}
 use Rattle.reader.proofs.Grammar.{rule_parted, formula_is}
 use Rattle.reader.proofs.Unique.{formula_same}
 
-good_bound : {ss : List Sign} {b : Bound} → IsBound ss b → All Good ss
+good_bound : {ss : List Sign} {b : Bound} → IsBound ss b → AllByRecursion Good ss
 good_bound grammar.plain = (λ e. let z : ◌≡◌ {A = ℕ} 0 1 = cc in omega arith, tt)
 good_bound grammar.at_most =
     (λ e. let z : ◌≡◌ {A = ℕ} 0 1 = cc in omega arith, (λ e. let z : ◌≡◌ {A = ℕ} 0 1 = cc in omega arith, tt))
 good_bound grammar.at_least =
     (λ e. let z : ◌≡◌ {A = ℕ} 0 1 = cc in omega arith, (λ e. let z : ◌≡◌ {A = ℕ} 0 1 = cc in omega arith, tt))
 
-good_until : (q : Quantifier) (ss bs us : List Sign) → All Good ss → All Good bs → All Good us
-    → All Good (until_signs q ss bs us)
+good_until : (q : Quantifier) (ss bs us : List Sign) → AllByRecursion Good ss → AllByRecursion Good bs
+    → AllByRecursion Good us → AllByRecursion Good (until_signs q ss bs us)
 good_until q ss bs us x y z =
     let close : Good CloseSquare = λ e. let n : ◌≡◌ {A = ℕ} 0 1 = cc in omega arith in
     let first : Good (Each q) = λ e. let n : ◌≡◌ {A = ℕ} 0 1 = cc in omega arith in
@@ -33,17 +33,17 @@ good_until q ss bs us x y z =
 
 -- the grammar takes no bad sign
 mutual
-  good_rule : {ss : List Sign} {f : Rule} → IsRule ss f → All Good ss
+  good_rule : {ss : List Sign} {f : Rule} → IsRule ss f → AllByRecursion Good ss
   good_rule (grammar.term t) = good_term t
   good_rule (grammar.bar r t) =
       All-append Good _ _ (good_rule r) (λ e. let z : ◌≡◌ {A = ℕ} 0 1 = cc in omega arith, good_term t)
 
-  good_term : {ss : List Sign} {f : Rule} → IsTerm ss f → All Good ss
+  good_term : {ss : List Sign} {f : Rule} → IsTerm ss f → AllByRecursion Good ss
   good_term (grammar.item i) = good_item i
   good_term (grammar.amp t i) =
       All-append Good _ _ (good_term t) (λ e. let z : ◌≡◌ {A = ℕ} 0 1 = cc in omega arith, good_item i)
 
-  good_item : {ss : List Sign} {f : Rule} → IsItem ss f → All Good ss
+  good_item : {ss : List Sign} {f : Rule} → IsItem ss f → AllByRecursion Good ss
   good_item grammar.one_sign = (λ e. let z : ◌≡◌ {A = ℕ} 0 1 = cc in omega arith, tt)
   good_item grammar.letter_sign = (λ e. let z : ◌≡◌ {A = ℕ} 0 1 = cc in omega arith, tt)
   good_item (grammar.bang i) = (λ e. let z : ◌≡◌ {A = ℕ} 0 1 = cc in omega arith, good_item i)

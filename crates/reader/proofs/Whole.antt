@@ -2,7 +2,7 @@
 use Rattle.std.proofs.Common.{◌≡◌, ℕ, ◌≤◌, Bool, true, false, ltb, List, [], length, take, MatchBool, Option, sym, refl}
 use Rattle.std.proofs.Common.{ap, ◌∙◌, subst, arith, ltb-false, ltb-true}
 use Rattle.std.specs.declared.option.Option.TheVariants as option
-use Rattle.std.specs.List.{AllByRecursion as All}
+use Rattle.std.specs.List.{AllByRecursion}
 use Rattle.tctl.specs.Rules as tree
 use Rattle.rules.specs.declared.rule.Rule.{Rule}
 use Rattle.rules.specs.Lines.{WellFormed, most_lines}
@@ -34,7 +34,7 @@ whole {text} h w n =
       rule = tree_formula h.part;
       reading = reading_from text h.part e;
       drawn = h.adds [] w;
-      lettered = (formula_lettered h.part [] (subst (All Fair) e (signs_fair text))).0;
+      lettered = (formula_lettered h.part [] (subst (AllByRecursion Fair) e (signs_fair text))).0;
     }
 
 told_large : {text : List ℕ} {d : Draft} (k : Whole text d) → d.large ≡ true → Large (lines_of k.rule)

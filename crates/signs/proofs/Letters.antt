@@ -1,7 +1,7 @@
 -- A letter that is read is one of the sixteen from a to p.
 use Rattle.std.proofs.Common.{◌≡◌, ℕ, zero, suc, ◌-◌, ◌<◌, Bool, true, false, cond, eqb, leb, List, [], ◌∷◌, refl}
 use Rattle.std.proofs.Common.{arith, leb-true}
-use Rattle.std.specs.List.{AllByRecursion as All}
+use Rattle.std.specs.List.{AllByRecursion}
 use Rattle.signs.specs.declared.Sign.{Sign}
 use Rattle.signs.specs.declared.Sign.TheVariants.{Open, Close, OpenSquare, CloseSquare, Bang, Amp, Bar, Each, Until}
 use Rattle.signs.specs.declared.Sign.TheVariants.{UntilAtMost, UntilAtLeast, Letter, Number, Bad}
@@ -47,12 +47,12 @@ sign_fair b bs =
     (λ _. by_cond Fair (eqb b 48) _ _ (λ _. by_cond Fair (eqb (run bs) 0) _ _ (λ _. tt) (λ _. tt))
     (λ _. by_cond Fair (digit b) _ _ (λ _. tt) (λ _. plain_fair b)))
 
-fair_after : (k : ℕ) (text : List ℕ) → All Fair (signs_after k text)
+fair_after : (k : ℕ) (text : List ℕ) → AllByRecursion Fair (signs_after k text)
 unfolding signs_after
-fair_after k [] = elim k as (λ n. All Fair (signs_after n [])) [ zero ↦ tt | suc n ↦ tt ]
+fair_after k [] = elim k as (λ n. AllByRecursion Fair (signs_after n [])) [ zero ↦ tt | suc n ↦ tt ]
 fair_after zero (b ∷ bs) =
-    by_cond (All Fair) (eqb b 32) _ _ (λ _. fair_after zero bs) (λ _. (sign_fair b bs, fair_after (more b bs) bs))
+    by_cond (AllByRecursion Fair) (eqb b 32) _ _ (λ _. fair_after zero bs) (λ _. (sign_fair b bs, fair_after (more b bs) bs))
 fair_after (suc k) (b ∷ bs) = fair_after k bs
 
-pub signs_fair : (text : List ℕ) → All Fair (signs text)
+pub signs_fair : (text : List ℕ) → AllByRecursion Fair (signs text)
 signs_fair text = fair_after 0 text

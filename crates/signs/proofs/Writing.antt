@@ -3,7 +3,7 @@ use Rattle.std.proofs.Common.{◌≡◌, ℕ, suc, ◌+◌, ◌-◌, ◌*◌, �
 use Rattle.std.proofs.Common.{length, take, drop, sym, refl, ap, ◌∙◌, subst, arith, eq-eqb, eqb-true, leb-true}
 use borrow.Author.Tests.{eqb-false, both_ways}
 use Rattle.std.proofs.lemmas.List.{take-append-drop}
-use Rattle.std.specs.List.{AllByRecursion as All}
+use Rattle.std.specs.List.{AllByRecursion}
 use Rattle.rules.specs.declared.line.Quantifier.TheVariants as quantifier
 use Rattle.signs.specs.declared.Sign.{Sign}
 use Rattle.signs.specs.declared.Sign.TheVariants.{Open, Close, OpenSquare, CloseSquare, Bang, Amp, Bar, Each, Until}
@@ -16,12 +16,12 @@ use Rattle.signs.proofs.Conds.{by_cond, both_cond}
 
 -- from what is written to signs
 
-spaces_skipped : (ws bs : List ℕ) → All Space ws → signs (ws ++ bs) ≡ signs bs
+spaces_skipped : (ws bs : List ℕ) → AllByRecursion Space ws → signs (ws ++ bs) ≡ signs bs
 unfolding signs_after
 spaces_skipped [] bs a = refl
 spaces_skipped (w ∷ ws) bs a = let e : eqb w 32 ≡ true = eq-eqb w 32 a.0 in rw e (spaces_skipped ws bs a.1)
 
-only_spaces : (ws : List ℕ) → All Space ws → signs ws ≡ []
+only_spaces : (ws : List ℕ) → AllByRecursion Space ws → signs ws ≡ []
 unfolding signs_after
 only_spaces [] a = refl
 only_spaces (w ∷ ws) a = let e : eqb w 32 ≡ true = eq-eqb w 32 a.0 in rw e (only_spaces ws a.1)
@@ -34,12 +34,12 @@ none_in_front (b ∷ bs) n =
     (rw d, λ v. rw d)
 
 -- digits before such a text
-digits_run : (ds bs : List ℕ) → All Digit ds → run bs ≡ 0 → run (ds ++ bs) ≡ length ds
+digits_run : (ds bs : List ℕ) → AllByRecursion Digit ds → run bs ≡ 0 → run (ds ++ bs) ≡ length ds
 digits_run [] bs a e = e
 digits_run (d ∷ ds) bs a e =
     let t : digit d ≡ true = digit_yes d a.0.0 a.0.1 in rw t (ap suc (digits_run ds bs a.1 e))
 
-digits_value : (v : ℕ) (ds bs : List ℕ) → All Digit ds → ((u : ℕ) → value u bs ≡ u) → value v (ds ++ bs) ≡ worth v ds
+digits_value : (v : ℕ) (ds bs : List ℕ) → AllByRecursion Digit ds → ((u : ℕ) → value u bs ≡ u) → value v (ds ++ bs) ≡ worth v ds
 digits_value v [] bs a e = e v
 digits_value v (d ∷ ds) bs a e =
     let t : digit d ≡ true = digit_yes d a.0.0 a.0.1 in rw t (digits_value (v * 10 + (d - 48)) ds bs a.1 e)
@@ -122,7 +122,7 @@ written_signs text (s ∷ ss) w =
 bad_unwritten : (bytes : List ℕ) (s : Sign) → Spells bytes s → Good s
 bad_unwritten bytes s w e = subst (Spells bytes) e w
 
-written_good : (text : List ℕ) (ss : List Sign) → Writes text ss → All Good ss
+written_good : (text : List ℕ) (ss : List Sign) → Writes text ss → AllByRecursion Good ss
 written_good text [] a = tt
 written_good text (s ∷ ss) w = (bad_unwritten w.bytes s w.spelled, written_good w.rest ss w.goes_on)
 
@@ -130,8 +130,8 @@ written_good text (s ∷ ss) w = (bad_unwritten w.bytes s w.spelled, written_goo
 
 -- a text is spaces alone, or has a first byte that is none
 pub data Front (text : List ℕ) : Type 0 where
-  blank : All Space text → Front text
-  begins : (ws : List ℕ) (b : ℕ) (bs : List ℕ) → All Space ws → (b ≡ 32 → ⊥) → text ≡ ws ++ (b ∷ bs) → Front text
+  blank : AllByRecursion Space text → Front text
+  begins : (ws : List ℕ) (b : ℕ) (bs : List ℕ) → AllByRecursion Space ws → (b ≡ 32 → ⊥) → text ≡ ws ++ (b ∷ bs) → Front text
 
 front : (text : List ℕ) → Front text
 front [] = blank tt
@@ -151,10 +151,10 @@ digit_bounds b e = go (leb 48 b) refl (leb b 57) refl e
     go false p y q t = absurd (both_ways false refl t)
 
 -- the digits in front are digits, with the value of the text, and no digit follows them
-run_digits : (bs : List ℕ) → All Digit (take (run bs) bs)
+run_digits : (bs : List ℕ) → AllByRecursion Digit (take (run bs) bs)
 run_digits [] = tt
 run_digits (b ∷ bs) =
-    by_cond (λ m. All Digit (take m (b ∷ bs))) (digit b) _ _ (λ e. (digit_bounds b e, run_digits bs)) (λ _. tt)
+    by_cond (λ m. AllByRecursion Digit (take m (b ∷ bs))) (digit b) _ _ (λ e. (digit_bounds b e, run_digits bs)) (λ _. tt)
 
 run_value : (v : ℕ) (bs : List ℕ) → worth v (take (run bs) bs) ≡ value v bs
 run_value v [] = refl
@@ -263,11 +263,11 @@ sign_meant b bs =
     (λ z. by_cond (λ s. P s 0) (eqb (run bs) 0) _ _ (λ e _. zero_meant b bs z e) (λ _ g. absurd (g refl)))
     (λ z. both_cond P (digit b) _ _ _ _ (number_meant b bs z) (λ _. plain_meant b bs)))
 
-first_of : {text : List ℕ} (ws : List ℕ) (b : ℕ) (bs : List ℕ) → All Space ws → (b ≡ 32 → ⊥) → text ≡ ws ++ (b ∷ bs)
+first_of : {text : List ℕ} (ws : List ℕ) (b : ℕ) (bs : List ℕ) → AllByRecursion Space ws → (b ≡ 32 → ⊥) → text ≡ ws ++ (b ∷ bs)
     → signs text ≡ sign b bs ∷ signs (drop (more b bs) bs)
 first_of ws b bs a n e = ap signs e ∙ spaces_skipped ws (b ∷ bs) a ∙ first_byte b bs n
 
-signs_written : (text : List ℕ) (ss : List Sign) → signs text ≡ ss → All Good ss → Writes text ss
+signs_written : (text : List ℕ) (ss : List Sign) → signs text ≡ ss → AllByRecursion Good ss → Writes text ss
 signs_written text [] e g = go (front text)
   where
     go : Front text → Writes text []

@@ -1,6 +1,6 @@
 -- What a text writes: signs, with spaces before, between and after them.
 use Rattle.std.specs.Prelude.{◌≡◌, ℕ, ◌+◌, ◌-◌, ◌*◌, ◌<◌, ◌≤◌, ◌↔◌, List, [], ◌∷◌, ◌++◌, length, codes, slice_index_or}
-use Rattle.std.specs.List.{AllByRecursion as All}
+use Rattle.std.specs.List.{AllByRecursion}
 use Rattle.rules.specs.declared.line.Quantifier.TheVariants as quantifier
 use Rattle.signs.specs.declared.Sign.{Sign}
 use Rattle.signs.specs.declared.Sign.TheVariants.{Open, Close, OpenSquare, CloseSquare, Bang, Amp, Bar, Each, Until}
@@ -17,7 +17,7 @@ worth v (b ∷ bs) = worth (v * 10 + (b - 48)) bs
 
 -- The bytes write the number n: digits, which begin with 0 only if they are `0`.
 pub record Numeral (bs : List ℕ) (n : ℕ) : Type 0 where
-  pub digits : All Digit bs
+  pub digits : AllByRecursion Digit bs
   pub some : 0 < length bs
   pub lead : slice_index_or bs 0 0 ≡ 48 → bs ≡ codes "0"
   pub value : worth 0 bs ≡ n
@@ -71,14 +71,14 @@ pub record SignThen (text : List ℕ) (s : Sign) (Rest : List ℕ → Type 0) : 
   pub bytes : List ℕ
   pub rest : List ℕ
   pub splits : text ≡ spaces ++ (bytes ++ rest)
-  pub blank : All Space spaces
+  pub blank : AllByRecursion Space spaces
   pub spelled : Spells bytes s
   pub apart : Apart s rest
   pub goes_on : Rest rest
 
 -- The text writes the signs.
 abbrev pub Writes : List ℕ → List Sign → Type 0
-Writes text [] = All Space text
+Writes text [] = AllByRecursion Space text
 Writes text (s ∷ ss) = SignThen text s (λ rest. Writes rest ss)
 
 abbrev pub Good : Sign → Type 0
@@ -86,4 +86,4 @@ Good s = s ≡ Bad → ⊥
 
 -- The function `signs` gives the signs that a text writes, and a bad one among them where it writes none.
 abbrev pub SignsRight : Type 0
-SignsRight = (text : List ℕ) (ss : List Sign) → Writes text ss ↔ ((signs text ≡ ss) × All Good ss)
+SignsRight = (text : List ℕ) (ss : List Sign) → Writes text ss ↔ ((signs text ≡ ss) × AllByRecursion Good ss)

@@ -6,7 +6,7 @@ use lib.Seq.{take-append-add, drop-append-add}
 use Rattle.std.proofs.lemmas.List.{append_assoc, append-nil, length-append, length_push, length-set, length-replicate}
 use Rattle.std.proofs.lemmas.List.{length-take-le, length-drop, take-append-drop, replicate-append-replicate, take_at}
 use Rattle.std.proofs.lemmas.List.{drop_at, drop-drop, drop-replicate, get_or-drop}
-use Rattle.std.specs.List.{remove as removed, between}
+use Rattle.std.specs.List.{remove, between}
 use Rattle.std.proofs.lemmas.List.Edits.{length-remove}
 use Rattle.stores.specs.Areas.{put, taken_out, number_at, Layout, bytes, in_use, filled, Holds}
 use Rattle.stores.specs.InUse.{length_in_use}
@@ -139,7 +139,7 @@ module _ {X : Type 0} (l : Layout X) (law : Lawful l) where
 
   pub taken_out-bytes : (xs : List X) (rest : List ℕ) (i : ℕ) → i < length xs
       → taken_out l.width (length xs) i (bytes l xs ++ rest)
-      ≡ bytes l (removed xs i) ++ (replicate l.width 0 ++ rest)
+      ≡ bytes l (remove xs i) ++ (replicate l.width 0 ++ rest)
   taken_out-bytes xs rest i h =
       let w = l.width in
       let n = length xs in
@@ -191,15 +191,15 @@ module _ {X : Type 0} (l : Layout X) (law : Lawful l) where
 
   -- record i taken out of an area of n records, which leaves m
   pub record_taken : (n m : ℕ) (bs : List ℕ) → Holds l n bs → n ≡ suc m → (i : ℕ) (new : List ℕ) → i < n
-      → new ≡ taken_out l.width n i bs → Written l m new (removed (in_use l n bs) i)
+      → new ≡ taken_out l.width n i bs → Written l m new (remove (in_use l n bs) i)
   record_taken n m bs h one i new below e =
       let xs = in_use l n bs in
       let k = length bs - length (bytes l xs) in
       let count = length_in_use l n bs in
       let inside : i < length xs = omega arith in
-      let taken_is : taken_out l.width n i bs ≡ bytes l (removed xs i) ++ replicate (l.width + k) 0 =
+      let taken_is : taken_out l.width n i bs ≡ bytes l (remove xs i) ++ replicate (l.width + k) 0 =
       ap (taken_out l.width n i) h
       ∙ ap (λ c. taken_out l.width c i (bytes l xs ++ replicate k 0)) (sym count)
       ∙ taken_out-bytes xs (replicate k 0) i inside
-      ∙ ap (λ r. bytes l (removed xs i) ++ r) (replicate-append-replicate l.width k 0) in
-      written m (l.width + k) new (removed xs i) (let fewer = length-remove xs i inside in omega arith) (e ∙ taken_is)
+      ∙ ap (λ r. bytes l (remove xs i) ++ r) (replicate-append-replicate l.width k 0) in
+      written m (l.width + k) new (remove xs i) (let fewer = length-remove xs i inside in omega arith) (e ∙ taken_is)

@@ -1,7 +1,7 @@
 -- A row that passes its tests is right.
 use Rattle.std.proofs.Common.{◌≡◌, ℕ, ◌<◌, Bool, true, false, T, eqb, ◌↔◌, List, [], ◌∷◌, map, length, get_or, Ok, Err}
 use Rattle.std.proofs.Common.{codes, Result, sym, refl, subst, arith, eqb→eq}
-use Rattle.std.specs.List.{AllByRecursion as All}
+use Rattle.std.specs.List.{AllByRecursion}
 use Rattle.tctl.specs.Rules.{Rule}
 use Rattle.tctl.specs.Holds.{Holds}
 use Rattle.tctl.specs.Checker.{◌and◌}
@@ -129,7 +129,7 @@ rows? (c ∷ cs) (q ∷ qs) = row? c q and rows? cs qs
 
 -- Every row of a table is right, where the texts are made of these parts and the tests are passed.
 pub rows_right : (cs : List Case) (qs : List Formula)
-    → map (λ c. signs (codes c.text)) cs ≡ map (λ q. spell_formula q []) qs → T (rows? cs qs) → All Right cs
+    → map (λ c. signs (codes c.text)) cs ≡ map (λ q. spell_formula q []) qs → T (rows? cs qs) → AllByRecursion Right cs
 rows_right [] [] e t = tt
 rows_right [] (q ∷ qs) e t = absurd t
 rows_right (c ∷ cs) [] e t = absurd t

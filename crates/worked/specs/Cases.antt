@@ -1,7 +1,7 @@
 -- The worked cases: a table of program, text of a rule, and answer, and what it means that a row is right.
 use Rattle.std.specs.Prelude.{◌≡◌, ℕ, ◌<◌, T, ◌↔◌, List, [], ◌∷◌, length, Ok, Err, codes, Result, slice_index}
 use Prim.Native.String.{String}
-use Rattle.std.specs.List.{AllByRecursion as All}
+use Rattle.std.specs.List.{AllByRecursion}
 use Rattle.tctl.specs.Rules.{Rule}
 use Rattle.tctl.specs.Holds.{Holds}
 use Rattle.program.specs.declared.Kind.TheVariants.{Open}
@@ -99,4 +99,4 @@ pub record Right (c : Case) : Type 0 where
 
 -- Every row is right.
 abbrev pub WorkedCases : Type 0
-WorkedCases = All Right cases
+WorkedCases = AllByRecursion Right cases
