@@ -31,7 +31,7 @@ pub(crate) fn answer_over<S: Store>(
     page: &[u8],
     out: &mut Vec<u8>,
 ) -> Result<Summary, AllocError>
-    ensures { IfOk result (λ summary. AddsPage (room store.old) (S.Program.meaning store.old)
+    ensures { IfOk result (λ summary. AddsPage (S.room store.old) (S.Program.meaning store.old)
         page.now out.old.items out.new.items summary) }
 {
     match load(store, page) {
