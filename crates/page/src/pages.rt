@@ -3,8 +3,8 @@ ghost use Rattle.std.specs.Prelude.{IfOk};
 ghost use Rattle.page.specs.Whole.{AddsPage};
 
 use crate::answers::write_refused;
+use crate::each_rule::{Counts, answer_rules};
 use crate::faults::ConsoleFault;
-use crate::rules::{Counts, answer_rules};
 use layout::faults::PageFault;
 use layout::loading::load;
 use program::Store;

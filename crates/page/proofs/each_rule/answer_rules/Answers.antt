@@ -2,7 +2,7 @@ use Rattle.std.proofs.Common.{vec_items, arith}
 use Rattle.layout.specs.Lines.{rule}
 use Rattle.layout.proofs.Loads.{shorter}
 use Rattle.page.proofs.Series.{none_answered, few-rules, one-checked, one-refused, all-answered}
-use Rattle.page.proofs.rules.answer_rules.Goals as goal
+use Rattle.page.proofs.each_rule.answer_rules.Goals as goal
 
 pub loop-text-init : goal.loop-text-init
 loop-text-init g c = none_answered (g.P.Program.meaning c.args.program.now) c.args.rules.now

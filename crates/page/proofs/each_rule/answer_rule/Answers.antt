@@ -1,6 +1,6 @@
 use Rattle.std.proofs.Common.{◌≡◌, ◌-◌, ◌*◌, ◌≤◌, length, take, vec_items, ap, arith}
 use Rattle.page.proofs.Told.{lined, adds}
-use Rattle.page.proofs.rules.answer_rule.Goals as goal
+use Rattle.page.proofs.each_rule.answer_rule.Goals as goal
 
 pub write_rule-requires : goal.write_rule-requires
 write_rule-requires g c = lined _ _ _ _ c.check-answer.result c.check-answer.ensures
