@@ -13,10 +13,17 @@ from collections import defaultdict
 WORD = r"[^\s:(){}\[\].,;=|⌜⌝]+"
 KEPT_APART = {
     "None-from": "NoneAtOrPast",
+    "getD-in-use": "get_or-front",
+    "getD-inUse": "get_or-in_use",
+    "getD-map-all": "get_or-map_all",
+    "getD-removed": "get_or-removed",
+    "getD-shifted": "get_or-shifted",
     "goesOn": "goes_on_to",
     "low-high": "low_high_is",
     "minuteMoves": "moves_by_minute",
     "move-at": "timed_move_at",
+    "move-into": "move_into-is",
+    "move-out-of": "move_out_of-is",
     "stage_at": "timed_stage_at",
     "no_move": "no_move_line",
     "rule-at": "rule_at-formed",
@@ -40,6 +47,7 @@ def files():
 def declared(path):
     """The names that a file declares, and whether each is the answer to a goal."""
     inside = False
+    lemmas = re.fullmatch(r"crates/\w+/(specs|proofs)/\w+\.antt", path)
     for line in open(path, encoding="utf-8"):
         if re.match(r"^\s*--", line):
             continue
@@ -48,21 +56,22 @@ def declared(path):
             yield found.group(1), False
             inside = True
             continue
-        found = re.match(rf"^(?:(?:pub|abbrev|unfoldable)\s+)*({WORD}(?:\s+{WORD})*)\s+:\s*(.*)", line)
+        found = re.match(rf"^(?:(?:pub|abbrev|unfoldable)\s+)*({WORD}(?:\s+{WORD})*)(?:\s+\{{ℓ\}})?\s+:\s*(.*)", line)
         if found:
             for name in found.group(1).split():
                 yield name, found.group(2).startswith("goal.")
             inside = False
             continue
-        found = re.match(rf"^ {{2,4}}(?:pub\s+)?({WORD})\s+:\s", line)
-        if found and inside:
-            yield found.group(1), False
+        found = re.match(rf"^ {{2,8}}(?:(?:pub|abbrev|unfoldable)\s+)*({WORD}(?:\s+{WORD})*)\s+:\s", line)
+        if found and (inside or lemmas):
+            for name in found.group(1).split():
+                yield name, False
         elif line.strip() and not line.startswith(" "):
             inside = False
 
 
 def snake(word):
-    return re.sub(r"(?<=[a-z0-9])([A-Z])", lambda m: "_" + m.group(1).lower(), word)
+    return re.sub(r"(?<=[a-zA-Z0-9])([A-Z])", lambda m: "_" + m.group(1).lower(), word)
 
 
 def respelled(name):
@@ -70,7 +79,7 @@ def respelled(name):
         return KEPT_APART[name]
     if name in THEOREMS:
         return name.replace("-", "_") + "_lem"
-    if name[0].isupper():
+    if name[0].isupper() and len(name.split("-")[0]) > 1:
         return "".join(part[0].upper() + part[1:] for part in name.split("-"))
     parts = name.split("-")
     if any(re.search(r"[a-z0-9][A-Z]", part) for part in parts):
@@ -88,7 +97,7 @@ def names():
         if name not in KEPT_APART and (not re.search(r"[a-z0-9][A-Z]|-|′", name) or GOAL.match(name)):
             continue
         new = respelled(name)
-        if new != name:
+        if new != name and (len(name.split("-")[0]) > 1 or name[0].islower()):
             changed[name] = new
     return seen, changed
 
@@ -107,6 +116,9 @@ def turned(text, changed, code):
 
 def main():
     seen, changed = names()
+    if "--by" in sys.argv:  # the names as a list gives them: for files that came in after the run
+        lines = open(sys.argv[sys.argv.index("--by") + 1], encoding="utf-8").read().splitlines()
+        seen, changed = set(), dict(line.split() for line in lines)
     back = defaultdict(set)
     for old, new in changed.items():
         back[new].add(old)

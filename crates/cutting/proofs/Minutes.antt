@@ -6,7 +6,7 @@ use Rattle.std.proofs.lemmas.Bool.{cases_lt, cases_order}
 use Rattle.tctl.specs.Graph.{Graph, Stage, Move, Open, size, count, move_at}
 use Rattle.tctl.specs.Runs.{Ends, Sound}
 use Rattle.tctl.specs.Refine.{Refines, span}
-use Rattle.tctl.proofs.Refined.{sound-up, sound-down}
+use Rattle.tctl.proofs.Refined.{sound_up, sound_down}
 use Rattle.cutting.specs.Minute.{leads, minutes_through, by_minutes, minute_moves, hidden, silent_one, minute}
 use Rattle.cutting.specs.Theorems.{MinuteRefines}
 
@@ -240,25 +240,25 @@ module _ (p : Graph) (ok : Ends p) where
     abbrev x : Move
     x = move_at p m
 
-    first-leaves : (move_at q (start ms m)).leaves ≡ (move_at p m).leaves
-    first-leaves =
+    first_leaves : (move_at q (start ms m)).leaves ≡ (move_at p m).leaves
+    first_leaves =
         let h = many_some x.minutes in
         ap (λ y. (move_at q y).leaves) (sym (add-zero (start ms m)))
         ∙ ap (λ (y : Move). y.leaves) (made_at ms (size p) m 0 lm h)
         ∙ by_first x.minutes x.leaves (new m) x.enters
 
-    last-enters : (k : ℕ) → suc k ≡ long ms m → (move_at q (start ms m + k)).enters ≡ (move_at p m).enters
-    last-enters k e =
+    last_enters : (k : ℕ) → suc k ≡ long ms m → (move_at q (start ms m + k)).enters ≡ (move_at p m).enters
+    last_enters k e =
         ap (λ (y : Move). y.enters) (made_at ms (size p) m k lm (omega arith))
         ∙ by_last x.minutes x.leaves (new m) x.enters k e
 
-    enters-new : (k : ℕ) → suc k < long ms m → (move_at q (start ms m + k)).enters ≡ new m + k
-    enters-new k l =
+    enters_new : (k : ℕ) → suc k < long ms m → (move_at q (start ms m + k)).enters ≡ new m + k
+    enters_new k l =
         ap (λ (y : Move). y.enters) (made_at ms (size p) m k lm (omega arith))
         ∙ by_enters x.minutes x.leaves (new m) x.enters k l
 
-    leaves-new : (k : ℕ) → suc k < long ms m → (move_at q (start ms m + suc k)).leaves ≡ new m + k
-    leaves-new k l =
+    leaves_new : (k : ℕ) → suc k < long ms m → (move_at q (start ms m + suc k)).leaves ≡ new m + k
+    leaves_new k l =
         ap (λ (y : Move). y.leaves) (made_at ms (size p) m (suc k) lm l)
         ∙ by_leaves x.minutes x.leaves (new m) x.enters k l
 
@@ -268,11 +268,11 @@ module _ (p : Graph) (ok : Ends p) where
   len : (m : ℕ) → length (chain m) ≡ long ms m
   len m = row_length (start ms m) (long ms m)
 
-  chain-at : (m k : ℕ) → k < length (chain m) → get_or (chain m) k 0 ≡ start ms m + k
-  chain-at m k l = let e = len m in row_at (start ms m) (long ms m) k (omega arith)
+  chain_at : (m k : ℕ) → k < length (chain m) → get_or (chain m) k 0 ≡ start ms m + k
+  chain_at m k l = let e = len m in row_at (start ms m) (long ms m) k (omega arith)
 
-  minute-silent : (s : ℕ) → size p ≤ s → Open q s → ⊥
-  minute-silent s l o =
+  minute_silent : (s : ℕ) → size p ≤ s → Open q s → ⊥
+  minute_silent s l o =
       let added = replicate (hidden ms) silent_one in
       hush (hidden ms) (s - size p)
       (subst (λ (x : Stage). T x.shown) (get_or-append_right p.stages added (size p) s silent_one refl l) o)
@@ -289,7 +289,7 @@ module _ (p : Graph) (ok : Ends p) where
       go : (m k : ℕ) → m < count p → k < long ms m → start ms m + k ≡ a → Inner a
       go m zero lm lk e =
           let u : (move_at q a).leaves ≡ (move_at p m).leaves =
-          ap (λ x. (move_at q x).leaves) (sym e ∙ add-zero (start ms m)) ∙ first-leaves m lm in
+          ap (λ x. (move_at q x).leaves) (sym e ∙ add-zero (start ms m)) ∙ first_leaves m lm in
           let v = ok.from m lm in
           absurd (omega arith)
       go m (suc k) lm lk e = (
@@ -298,12 +298,12 @@ module _ (p : Graph) (ok : Ends p) where
         lm,
         many_less (at ms m).minutes k lk,
         e,
-        ap (λ x. (move_at q x).leaves) (sym e) ∙ leaves-new m lm k lk,
+        ap (λ x. (move_at q x).leaves) (sym e) ∙ leaves_new m lm k lk,
       )
 
-  inner-one : (a b m k m' k' : ℕ) → m < count p → m' < count p → k < (at ms m).minutes - 1
+  inner_one : (a b m k m' k' : ℕ) → m < count p → m' < count p → k < (at ms m).minutes - 1
       → k' < (at ms m').minutes - 1 → start ms m + suc k ≡ a → start ms m' + suc k' ≡ b → new m + k ≡ new m' + k' → a ≡ b
-  inner-one a b m k m' k' lm lm' lk lk' ea eb e =
+  inner_one a b m k m' k' lm lm' lk lk' ea eb e =
       ⊎_elim
       (λ i.
       let f : new m ≡ new m' = ap new i in
@@ -314,59 +314,59 @@ module _ (p : Graph) (ok : Ends p) where
       (λ i. let h = fresh_mono ms (size p) m' m i lm in absurd (omega arith)))
       (cases_order m m')
 
-  minute-of : Refines p q
-  minute-of =
+  minute_of : Refines p q
+  minute_of =
       record {
         chains =
             record {
               extra = replicate (hidden ms) silent_one;
               stages = refl;
-              silent = minute-silent;
+              silent = minute_silent;
               chain = chain;
               some = λ m l. let e = len m in let h = many_some (at ms m).minutes in omega arith;
               real = λ m k lm lk.
                   let e = len m in
-                  subst (λ x. x < count q) (sym (chain-at m k lk)) (made_real ms (size p) m k lm (omega arith));
+                  subst (λ x. x < count q) (sym (chain_at m k lk)) (made_real ms (size p) m k lm (omega arith));
               first = λ m lm.
                   let e = len m in
                   let h = many_some (at ms m).minutes in
-                  ap (λ x. (move_at q x).leaves) (chain-at m 0 (omega arith) ∙ add-zero (start ms m)) ∙ first-leaves m lm;
+                  ap (λ x. (move_at q x).leaves) (chain_at m 0 (omega arith) ∙ add-zero (start ms m)) ∙ first_leaves m lm;
               last = λ m k lm lk.
-                  ap (λ x. (move_at q x).enters) (chain-at m k (omega arith)) ∙ last-enters m lm k (lk ∙ len m);
+                  ap (λ x. (move_at q x).enters) (chain_at m k (omega arith)) ∙ last_enters m lm k (lk ∙ len m);
               minutes = λ m lm.
                   let x = at ms m in
                   row_span q x.minutes x.leaves (new m) x.enters (start ms m)
                   (λ k lk. made_at ms (size p) m k lm lk);
               through = λ m k lm lk.
                   let e = len m in
-                  let u = enters-new m lm k (omega arith) in
+                  let u = enters_new m lm k (omega arith) in
                   let w : (move_at q (get_or (chain m) k 0)).enters ≡ (move_at q (start ms m + k)).enters =
-                  ap (λ x. (move_at q x).enters) (chain-at m k (omega arith)) in
+                  ap (λ x. (move_at q x).enters) (chain_at m k (omega arith)) in
                   let v = fresh_from ms (size p) m in
                   omega arith;
               joined = λ m k lm lk.
                   let e = len m in
-                  ap (λ x. (move_at q x).leaves) (chain-at m (suc k) lk) ∙ leaves-new m lm k (omega arith)
-                  ∙ sym (ap (λ x. (move_at q x).enters) (chain-at m k (omega arith)) ∙ enters-new m lm k (omega arith));
+                  ap (λ x. (move_at q x).leaves) (chain_at m (suc k) lk) ∙ leaves_new m lm k (omega arith)
+                  ∙ sym (ap (λ x. (move_at q x).enters) (chain_at m k (omega arith)) ∙ enters_new m lm k (omega arith));
             };
         all = λ a l.
             let o = found ms (size p) a l in
             let e = len o.0 in
-            (o.0, o.1, o.2, omega (arith, o.3), chain-at o.0 o.1 (omega (arith, o.3)) ∙ o.4);
+            (o.0, o.1, o.2, omega (arith, o.3), chain_at o.0 o.1 (omega (arith, o.3)) ∙ o.4);
         one_out = λ a b la lb h e.
             let u = inner a la h in
             let v = inner b lb (subst (λ x. size p ≤ x) e h) in
-            inner-one a b u.0 u.1 v.0 v.1 u.2 v.2 u.3 v.3 u.4 v.4 (sym u.5 ∙ e ∙ v.5);
+            inner_one a b u.0 u.1 v.0 v.1 u.2 v.2 u.3 v.3 u.4 v.4 (sym u.5 ∙ e ∙ v.5);
       }
 
-  minute-size : size q ≡ size p + hidden ms
-  minute-size =
+  minute_size : size q ≡ size p + hidden ms
+  minute_size =
       length-append p.stages (replicate (hidden ms) silent_one)
       ∙ ap (λ x. size p + x) (length-replicate (hidden ms) silent_one)
 
-  minute-from : (a : ℕ) → a < count q → (move_at q a).leaves < size q
-  minute-from a l =
-      let z = minute-size in
+  minute_from : (a : ℕ) → a < count q → (move_at q a).leaves < size q
+  minute_from a l =
+      let z = minute_size in
       ⊎_elim (λ h. omega arith)
       (λ h.
       let o = inner a l h in
@@ -376,41 +376,41 @@ module _ (p : Graph) (ok : Ends p) where
       omega arith)
       (cases_lt (move_at q a).leaves (size p))
 
-  minute-to : (a : ℕ) → a < count q → (move_at q a).enters < size q
-  minute-to a l =
+  minute_to : (a : ℕ) → a < count q → (move_at q a).enters < size q
+  minute_to a l =
       let o = found ms (size p) a l in
       go o.0 o.1 o.2 o.3 o.4 (cases_lt (suc o.1) (long ms o.0))
     where
       go : (m k : ℕ) → m < count p → k < long ms m → start ms m + k ≡ a
           → (suc k < long ms m) ⊎ (long ms m ≤ suc k) → (move_at q a).enters < size q
       go m k lm lk e (inl h) =
-          let u : (move_at q a).enters ≡ new m + k = ap (λ x. (move_at q x).enters) (sym e) ∙ enters-new m lm k h in
+          let u : (move_at q a).enters ≡ new m + k = ap (λ x. (move_at q x).enters) (sym e) ∙ enters_new m lm k h in
           let t = fresh_top ms (size p) m lm in
           let d = many_less (at ms m).minutes k h in
-          let z = minute-size in
+          let z = minute_size in
           omega arith
       go m k lm lk e (inr h) =
           let y : suc k ≡ long ms m = omega arith in
           let u : (move_at q a).enters ≡ (move_at p m).enters =
-          ap (λ x. (move_at q x).enters) (sym e) ∙ last-enters m lm k y in
+          ap (λ x. (move_at q x).enters) (sym e) ∙ last_enters m lm k y in
           let t = ok.to m lm in
-          let z = minute-size in
+          let z = minute_size in
           omega arith
 
-  minute-out : (s : ℕ) → size p ≤ s → s < size q → (m : ℕ) × (m < count q) × ((move_at q m).leaves ≡ s)
-  minute-out s l h =
-      let z = minute-size in
+  minute_out : (s : ℕ) → size p ≤ s → s < size q → (m : ℕ) × (m < count q) × ((move_at q m).leaves ≡ s)
+  minute_out s l h =
+      let z = minute_size in
       let o = owned ms (size p) s l (omega arith) in
       let lk = less_many (at ms o.0).minutes o.1 o.3 in (
         start ms o.0 + suc o.1,
         made_real ms (size p) o.0 (suc o.1) o.2 lk,
-        leaves-new o.0 o.2 o.1 lk ∙ o.4,
+        leaves_new o.0 o.2 o.1 lk ∙ o.4,
       )
 
-  pub minute-sound : Sound p ↔ Sound (minute p)
-  minute-sound =
-      let ends : Ends q = record { from = minute-from; to = minute-to } in
-      ((λ h. sound-up p q ok minute-of h ends minute-out), sound-down p q ok minute-of)
+  pub minute_sound : Sound p ↔ Sound (minute p)
+  minute_sound =
+      let ends : Ends q = record { from = minute_from; to = minute_to } in
+      ((λ h. sound_up p q ok minute_of h ends minute_out), sound_down p q ok minute_of)
 
 pub minute_refines_lem : MinuteRefines
-minute_refines_lem = minute-of
+minute_refines_lem = minute_of

@@ -6,13 +6,13 @@ use Rattle.program.specs.Meaning.{Prog, stage_at, move_at}
 use Rattle.program.specs.Edits.{Caps, Out, accepted, refused, is_open, with_cut, with_join, last_stage, cut_step, join_step}
 use Rattle.program.specs.Graphs.{graph}
 use Rattle.program.specs.Tidy.{Tidy}
-use Rattle.program.proofs.Cuts.{cut-splits, join-splits}
-use Rattle.program.proofs.Kept.{step-tidy, joinable}
+use Rattle.program.proofs.Cuts.{cut_splits, join_splits}
+use Rattle.program.proofs.Kept.{step_tidy, joinable}
 use Rattle.cutting.specs.Minute.{minute}
 use Rattle.cutting.specs.Theorems.{Agree, SameVerdicts, EditsTidy}
 use Rattle.cutting.proofs.Alikes.{refined_alike_lem, agree_refl, agree_sym}
-use Rattle.cutting.proofs.Minutes.{minute_refines_lem, minute-sound}
-use Rattle.cutting.proofs.Halves.{tidy_ends, split-agree}
+use Rattle.cutting.proofs.Minutes.{minute_refines_lem, minute_sound}
+use Rattle.cutting.proofs.Halves.{tidy_ends, split_agree}
 
 module _ (p : Prog) (t : Tidy p) where
   abbrev Agrees : Out → Type 0
@@ -29,8 +29,8 @@ module _ (p : Prog) (t : Tidy p) where
       cond_both (ltb (length p.moves) caps.moves) (accepted (length p.stages) (with_cut p k a))
       (refused MovesFull p) Agrees
       (λ h'.
-      split-agree p (with_cut p k a)
-      (cut-splits p (λ m l. (t.ends m l).0) (λ m l. (t.ends m l).1) k a (ltb-true k (length p.moves) lk)
+      split_agree p (with_cut p k a)
+      (cut_splits p (λ m l. (t.ends m l).0) (λ m l. (t.ends m l).1) k a (ltb-true k (length p.moves) lk)
       (leb-true a (move_at p k).minutes la)))
       (λ h'. agree_refl (graph p)))
       (λ h. agree_refl (graph p)))
@@ -46,7 +46,7 @@ module _ (p : Prog) (t : Tidy p) where
       (λ o. agree_refl (graph p))
       (λ hushed.
       agree_sym (graph (with_join p)) (graph p)
-      (split-agree (with_join p) p (join-splits p t (joinable p some hushed)))))
+      (split_agree (with_join p) p (join_splits p t (joinable p some hushed)))))
       (λ none. agree_refl (graph p))
 
   by_the_minute : Agree (graph p) (minute (graph p))
@@ -54,7 +54,7 @@ module _ (p : Prog) (t : Tidy p) where
       let ok = tidy_ends p t in
       record {
         alike = refined_alike_lem (graph p) (minute (graph p)) ok (minute_refines_lem (graph p) ok);
-        sound = minute-sound (graph p) ok;
+        sound = minute_sound (graph p) ok;
       }
 
 pub same_verdicts_lem : SameVerdicts
@@ -66,4 +66,4 @@ same_verdicts_lem =
     }
 
 pub edits_tidy_lem : EditsTidy
-edits_tidy_lem caps p e = step-tidy p caps e
+edits_tidy_lem caps p e = step_tidy p caps e

@@ -165,10 +165,10 @@ module _ {caps : Caps} {p : Prog} {page : List ℕ} {part : Part} {number : ℕ}
         leaves = d.leaves ∙ ap (λ x. (edit_step caps x l).after) at ∙ sym (after_push caps p s.lines l);
       }
 
-  pub rule-more : (l : Line) (rest' : List ℕ) (part' : Part) (q' : Prog) → Follows part l → rest ≡ write l ++ 10 ∷ rest'
+  pub rule_more : (l : Line) (rest' : List ℕ) (part' : Part) (q' : Prog) → Follows part l → rest ≡ write l ++ 10 ∷ rest'
       → Edited (edit_step caps q l) (Ok tt) q' → part' ≡ part_of l → part' ≡ Rules
       → Stands caps p page part' (number + 1) rest' rules q'
-  rule-more l rest' part' q' f e d is rule-line =
+  rule_more l rest' part' q' f e d is rule-line =
       record {
         lines = s.lines ++ l ∷ [];
         took = lines_more l rest' q' f e d;
@@ -178,11 +178,11 @@ module _ {caps : Caps} {p : Prog} {page : List ℕ} {part : Part} {number : ℕ}
             ∙ sym (rules_push s.lines l rest' (sym is ∙ rule-line));
       }
 
-  pub other-more : (l : Line) (rest' : List ℕ) (part' : Part) (q' : Prog) → Follows part l
+  pub other_more : (l : Line) (rest' : List ℕ) (part' : Part) (q' : Prog) → Follows part l
       → rest ≡ write l ++ 10 ∷ rest'
       → Edited (edit_step caps q l) (Ok tt) q' → part' ≡ part_of l → (part' ≡ Rules → ⊥)
       → Stands caps p page part' (number + 1) rest' rest' q'
-  other-more l rest' part' q' f e d is other =
+  other_more l rest' part' q' f e d is other =
       let took = lines_more l rest' q' f e d in
       let last : part' ≡ last_part Stages (s.lines ++ l ∷ []) = is ∙ sym (last_push Stages s.lines l) in
       record {
@@ -195,8 +195,8 @@ module _ {caps : Caps} {p : Prog} {page : List ℕ} {part : Part} {number : ℕ}
             (subst (λ x. rank x < 2) last (low_rank part' other))));
       }
 
-  pub page-ends : length rest ≤ 0 → length page ≤ most_bytes → Whole caps p page rules q
-  page-ends none short =
+  pub page_ends : length rest ≤ 0 → length page ≤ most_bytes → Whole caps p page rules q
+  page_ends none short =
       let e : rest ≡ [] = nil_from_length rest (omega arith) in
       record {
         lines = s.lines;
@@ -206,8 +206,8 @@ module _ {caps : Caps} {p : Prog} {page : List ℕ} {part : Part} {number : ℕ}
             ∙ append-nil (rules_of (texts_of s.lines));
       }
 
-  pub breaks-form : 0 < length rest → length page ≤ most_bytes → NoLine part rest → BreaksForm caps p page (number + 1) q
-  breaks-form more short none =
+  pub breaks_form : 0 < length rest → length page ≤ most_bytes → NoLine part rest → BreaksForm caps p page (number + 1) q
+  breaks_form more short none =
       record {
         lines = s.lines;
         rest = rest;
@@ -218,11 +218,11 @@ module _ {caps : Caps} {p : Prog} {page : List ℕ} {part : Part} {number : ℕ}
         number = ap (λ n. n + 1) s.number_is;
       }
 
-  pub breaks-edit : (l : Line) (rest' : List ℕ) (fault : EditFault) (q' : Prog) → length page ≤ most_bytes
+  pub breaks_edit : (l : Line) (rest' : List ℕ) (fault : EditFault) (q' : Prog) → length page ≤ most_bytes
       → Follows part l
       → rest ≡ write l ++ 10 ∷ rest' → Edited (edit_step caps q l) (Err fault) q'
       → BreaksEdit caps p page (number + 1) fault q'
-  breaks-edit l rest' fault q' short f e d =
+  breaks_edit l rest' fault q' short f e d =
       let no : (edit_step caps q l).answer ≡ Err fault = refused_verdict (edit_step caps q l).answer fault
       (sym d.answers) in
       let same : q ≡ q' = sym (d.leaves ∙ refused_keeps caps q l fault no) in

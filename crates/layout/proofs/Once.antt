@@ -94,9 +94,9 @@ never_both_ways (Ok n) fault e v = let z : ◌≡◌ {A = ℕ} 0 1 = cc in omega
 never_both_ways (Err x) fault e v = let z : ◌≡◌ {A = ℕ} 0 1 = cc in omega arith
 
 module _ (caps : Caps) (p : Prog) (page : List ℕ) where
-  took-compare : {ls ks : List Line} {rest rest' : List ℕ} {q q' : Prog} → Took caps p page ls rest q
+  took_compare : {ls ks : List Line} {rest rest' : List ℕ} {q q' : Prog} → Took caps p page ls rest q
       → Took caps p page ks rest' q' → Compared Stages ls ks rest rest'
-  took-compare {ls} {ks} {rest} {rest'} t u =
+  took_compare {ls} {ks} {rest} {rest'} t u =
       compare Stages ls ks rest rest' t.form u.form (sym t.splits ∙ u.splits)
 
   same_store : {ls ks : List Line} {rest rest' : List ℕ} {q q' : Prog} → Took caps p page ls rest q
@@ -104,14 +104,14 @@ module _ (caps : Caps) (p : Prog) (page : List ℕ) where
   same_store t u e = t.leaves ∙ ap (after caps p) e ∙ sym u.leaves
 
   -- Behind lines at which nothing fits or an edit is refused, no more are taken.
-  form-stops : {k : ℕ} {q : Prog} (b : BreaksForm caps p page k q) {ks : List Line}
+  form_stops : {k : ℕ} {q : Prog} (b : BreaksForm caps p page k q) {ks : List Line}
       → Longer Stages b.lines b.rest ks → ⊥
-  form-stops b h = b.breaks h.next h.tail h.follows h.stood
+  form_stops b h = b.breaks h.next h.tail h.follows h.stood
 
-  edit-stops : {k : ℕ} {fault : EditFault} {q q' : Prog} (b : BreaksEdit caps p page k fault q) {ks : List Line}
+  edit_stops : {k : ℕ} {fault : EditFault} {q q' : Prog} (b : BreaksEdit caps p page k fault q) {ks : List Line}
       {rest' : List ℕ}
       → Took caps p page ks rest' q' → Longer Stages b.lines (write b.line ++ 10 ∷ b.rest) ks → ⊥
-  edit-stops {fault = fault} {q = q} b u h =
+  edit_stops {fault = fault} {q = q} b u h =
       let l : b.line ≡ h.next = (one_line b.line h.next b.rest h.tail b.follows.fits
       h.follows.fits h.stood).0 in
       let a = accepted_next caps p b.lines h.next h.more (subst (Accepted caps p) h.is u.accepted) in
@@ -122,36 +122,36 @@ module _ (caps : Caps) (p : Prog) (page : List ℕ) where
   nothing_left : {rest : List ℕ} (l : Line) (tail : List ℕ) → rest ≡ write l ++ 10 ∷ tail → rest ≡ [] → ⊥
   nothing_left l tail e n = omega (arith, ap length (sym e ∙ n), length-append (write l) (10 ∷ tail))
 
-  whole-form : {k : ℕ} {rules : List ℕ} {q q' : Prog} → Whole caps p page rules q → BreaksForm caps p page k q' → ⊥
-  whole-form w b = go (took-compare w.took b.took)
+  whole_form : {k : ℕ} {rules : List ℕ} {q q' : Prog} → Whole caps p page rules q → BreaksForm caps p page k q' → ⊥
+  whole_form w b = go (took_compare w.took b.took)
     where
       go : Compared Stages w.lines b.lines [] b.rest → ⊥
       go (same e r) = omega (arith, b.more, ap length r)
       go (right h) = nothing_left h.next h.tail h.stood refl
-      go (left h) = form-stops b h
+      go (left h) = form_stops b h
 
-  whole-edit : {k : ℕ} {fault : EditFault} {rules : List ℕ} {q q' : Prog} → Whole caps p page rules q
+  whole_edit : {k : ℕ} {fault : EditFault} {rules : List ℕ} {q q' : Prog} → Whole caps p page rules q
       → BreaksEdit caps p page k fault q' → ⊥
-  whole-edit w b = go (took-compare w.took b.took)
+  whole_edit w b = go (took_compare w.took b.took)
     where
       go : Compared Stages w.lines b.lines [] (write b.line ++ 10 ∷ b.rest) → ⊥
       go (same e r) = nothing_left b.line b.rest refl (sym r)
       go (right h) = nothing_left h.next h.tail h.stood refl
-      go (left h) = edit-stops b w.took h
+      go (left h) = edit_stops b w.took h
 
-  form-edit : {k k' : ℕ} {fault : EditFault} {q q' : Prog} → BreaksForm caps p page k q
+  form_edit : {k k' : ℕ} {fault : EditFault} {q q' : Prog} → BreaksForm caps p page k q
       → BreaksEdit caps p page k' fault q' → ⊥
-  form-edit b d = go (took-compare b.took d.took)
+  form_edit b d = go (took_compare b.took d.took)
     where
       go : Compared Stages b.lines d.lines b.rest (write d.line ++ 10 ∷ d.rest) → ⊥
       go (same e r) =
           b.breaks d.line d.rest (subst (λ ls. Follows (last_part Stages ls) d.line) (sym e) d.follows) r
-      go (right h) = form-stops b h
-      go (left h) = edit-stops d b.took h
+      go (right h) = form_stops b h
+      go (left h) = edit_stops d b.took h
 
-  whole-whole : {rules rules' : List ℕ} {q q' : Prog} → Whole caps p page rules q → Whole caps p page rules' q'
+  whole_whole : {rules rules' : List ℕ} {q q' : Prog} → Whole caps p page rules q → Whole caps p page rules' q'
       → (rules ≡ rules') × (q ≡ q')
-  whole-whole {rules} {rules'} {q} {q'} w v = go (took-compare w.took v.took)
+  whole_whole {rules} {rules'} {q} {q'} w v = go (took_compare w.took v.took)
     where
       go : Compared Stages w.lines v.lines [] [] → (rules ≡ rules') × (q ≡ q')
       go (same e r) =
@@ -159,18 +159,18 @@ module _ (caps : Caps) (p : Prog) (page : List ℕ) where
       go (right h) = absurd (nothing_left h.next h.tail h.stood refl)
       go (left h) = absurd (nothing_left h.next h.tail h.stood refl)
 
-  form-form : {k k' : ℕ} {q q' : Prog} → BreaksForm caps p page k q → BreaksForm caps p page k' q' → (k ≡ k') × (q ≡ q')
-  form-form {k} {k'} {q} {q'} b d = go (took-compare b.took d.took)
+  form_form : {k k' : ℕ} {q q' : Prog} → BreaksForm caps p page k q → BreaksForm caps p page k' q' → (k ≡ k') × (q ≡ q')
+  form_form {k} {k'} {q} {q'} b d = go (took_compare b.took d.took)
     where
       go : Compared Stages b.lines d.lines b.rest d.rest → (k ≡ k') × (q ≡ q')
       go (same e r) =
           (b.number ∙ ap (λ ls. length ls + 1) e ∙ sym d.number, same_store b.took d.took e)
-      go (right h) = absurd (form-stops b h)
-      go (left h) = absurd (form-stops d h)
+      go (right h) = absurd (form_stops b h)
+      go (left h) = absurd (form_stops d h)
 
-  edit-edit : {k k' : ℕ} {fault fault' : EditFault} {q q' : Prog} → BreaksEdit caps p page k fault q
+  edit_edit : {k k' : ℕ} {fault fault' : EditFault} {q q' : Prog} → BreaksEdit caps p page k fault q
       → BreaksEdit caps p page k' fault' q' → (k ≡ k') × (fault ≡ fault') × (q ≡ q')
-  edit-edit {k} {k'} {fault} {fault'} {q} {q'} b d = go (took-compare b.took d.took)
+  edit_edit {k} {k'} {fault} {fault'} {q} {q'} b d = go (took_compare b.took d.took)
     where
       go : Compared Stages b.lines d.lines (write b.line ++ 10 ∷ b.rest) (write d.line ++ 10 ∷ d.rest)
           → (k ≡ k') × (fault ≡ fault') × (q ≡ q')
@@ -182,8 +182,8 @@ module _ (caps : Caps) (p : Prog) (page : List ℕ) where
           sym b.refused ∙ ap (λ x. (edit_step caps x b.line).answer) store
           ∙ ap (λ x. (edit_step caps q' x).answer) l ∙ d.refused in
           (b.number ∙ ap (λ ls. length ls + 1) e ∙ sym d.number, (cc), store)
-      go (right h) = absurd (edit-stops b d.took h)
-      go (left h) = absurd (edit-stops d b.took h)
+      go (right h) = absurd (edit_stops b d.took h)
+      go (left h) = absurd (edit_stops d b.took h)
 
   refused_once : (f f' : PageFault) (q q' : Prog) → Refuses caps p page f q → Refuses caps p page f' q'
       → (f ≡ f') × (q ≡ q')
@@ -191,22 +191,22 @@ module _ (caps : Caps) (p : Prog) (page : List ℕ) where
   refused_once TooLong (OutOfForm k) q q' b d = absurd (omega (arith, b.0, d.short))
   refused_once TooLong (Edit k fault) q q' b d = absurd (omega (arith, b.0, d.short))
   refused_once (OutOfForm k) TooLong q q' b d = absurd (omega (arith, b.short, d.0))
-  refused_once (OutOfForm k) (OutOfForm k') q q' b d = let h = form-form b d in (ap OutOfForm h.0, h.1)
-  refused_once (OutOfForm k) (Edit k' fault) q q' b d = absurd (form-edit b d)
+  refused_once (OutOfForm k) (OutOfForm k') q q' b d = let h = form_form b d in (ap OutOfForm h.0, h.1)
+  refused_once (OutOfForm k) (Edit k' fault) q q' b d = absurd (form_edit b d)
   refused_once (Edit k fault) TooLong q q' b d = absurd (omega (arith, b.short, d.0))
-  refused_once (Edit k fault) (OutOfForm k') q q' b d = absurd (form-edit d b)
+  refused_once (Edit k fault) (OutOfForm k') q q' b d = absurd (form_edit d b)
   refused_once (Edit k fault) (Edit k' fault') q q' b d =
-      let h = edit-edit b d in (ap (λ x. Edit x fault) h.0 ∙ ap (Edit k') h.1, h.2)
+      let h = edit_edit b d in (ap (λ x. Edit x fault) h.0 ∙ ap (Edit k') h.1, h.2)
 
   never_both : (rules : List ℕ) (f : PageFault) (q q' : Prog) → Whole caps p page rules q → Refuses caps p page f q' → ⊥
   never_both rules TooLong q q' w b = omega (arith, w.short, b.0)
-  never_both rules (OutOfForm k) q q' w b = whole-form w b
-  never_both rules (Edit k fault) q q' w b = whole-edit w b
+  never_both rules (OutOfForm k) q q' w b = whole_form w b
+  never_both rules (Edit k fault) q q' w b = whole_edit w b
 
 pub one_outcome_lem : OneOutcome
 one_outcome_lem =
     record {
-      taken_once = λ caps p page rules rules' q q' w v. whole-whole caps p page w v;
+      taken_once = λ caps p page rules rules' q q' w v. whole_whole caps p page w v;
       refused_once = λ caps p page f f' q q' b d. refused_once caps p page f f' q q' b d;
       never_both = λ caps p page rules f q q' w b. never_both caps p page rules f q q' w b;
     }

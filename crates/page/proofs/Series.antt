@@ -93,8 +93,8 @@ none_answered p rules before =
 
 module _ {p : Prog} {rules before rest out : List ℕ} {checked refused : ℕ}
     (s : Sofar p rules before rest out checked refused) where
-  pub few-rules : checked + refused + length rest ≤ length rules
-  few-rules =
+  pub few_rules : checked + refused + length rest ≤ length rules
+  few_rules =
       omega (
         arith,
         s.refused_is,
@@ -123,20 +123,20 @@ module _ {p : Prog} {rules before rest out : List ℕ} {checked refused : ℕ}
         refused_is = omega (arith, s.refused_is, length_push s.answers a.answer);
       }
 
-  pub one-checked : (text rest' out' : List ℕ) (t : Bool) → Lacks 10 text → rest ≡ write (rule text) ++ 10 ∷ rest'
+  pub one_checked : (text rest' out' : List ℕ) (t : Bool) → Lacks 10 text → rest ≡ write (rule text) ++ 10 ∷ rest'
       → Adds p (checked + refused) text out out' t → t ≡ true → Sofar p rules before rest' out' (checked + 1) refused
-  one-checked text rest' out' t l e a is =
+  one_checked text rest' out' t l e a is =
       one_more text rest' out' t (checked + 1) refused l e a
       (omega (arith, s.checked_is, checked_push s.answers a.answer (sym a.checked_is ∙ is))) (omega arith)
 
-  pub one-refused : (text rest' out' : List ℕ) (t : Bool) → Lacks 10 text → rest ≡ write (rule text) ++ 10 ∷ rest'
+  pub one_refused : (text rest' out' : List ℕ) (t : Bool) → Lacks 10 text → rest ≡ write (rule text) ++ 10 ∷ rest'
       → Adds p (checked + refused) text out out' t → t ≡ false → Sofar p rules before rest' out' checked (refused + 1)
-  one-refused text rest' out' t l e a is =
+  one_refused text rest' out' t l e a is =
       one_more text rest' out' t checked (refused + 1) l e a
       (s.checked_is ∙ sym (refused_push s.answers a.answer (sym a.checked_is ∙ is))) (omega arith)
 
-  pub all-answered : NoLine Rules rest → AddsAll p rules before out checked refused
-  all-answered none =
+  pub all_answered : NoLine Rules rest → AddsAll p rules before out checked refused
+  all_answered none =
       record {
         texts = s.texts;
         rest = rest;

@@ -9,10 +9,10 @@ use Rattle.program.specs.Graphs.{graph}
 use Rattle.rules.specs.Lines.{rule_at}
 use Rattle.rules.specs.Postorder.{lines_of}
 use Rattle.sheet.specs.Sheets.{Names}
-use Rattle.check.specs.declared.faults.CheckFault.{CheckFault}
-use Rattle.check.specs.declared.faults.CheckFault.TheVariants.{Text, NoStage, DeadEnd, StillCycle, ShortMemory}
-use Rattle.check.specs.Outcomes.{Memory, Enough}
-use Rattle.check.specs.Checks.{Check}
+use Rattle.checker.specs.declared.faults.CheckFault.{CheckFault}
+use Rattle.checker.specs.declared.faults.CheckFault.TheVariants.{Text, NoStage, DeadEnd, StillCycle, ShortMemory}
+use Rattle.checker.specs.Outcomes.{Memory, Enough}
+use Rattle.checker.specs.Checks.{Check}
 use Rattle.page.specs.Answers.{holds_in, stages_from, stages_of, answer_of, rule_bytes, Lined}
 use Rattle.page.specs.Console.{Rises, Among, Where, Answers, Adds}
 use Rattle.page.proofs.LastLine.{last_rule, some_line}

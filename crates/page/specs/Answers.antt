@@ -1,7 +1,7 @@
 -- The bytes of the answers to a page.
 use Rattle.std.specs.Prelude.{ℕ, ◌+◌, ◌-◌, ◌/◌, ◌%◌, ◌^◌, ◌≤◌, Bool, cond, List, [], ◌∷◌, ◌++◌, Ok, Err, codes, decimal, Result, ◌==◌}
-use Rattle.check.specs.declared.faults.CheckFault.{CheckFault}
-use Rattle.check.specs.Faults as check
+use Rattle.checker.specs.declared.faults.CheckFault.{CheckFault}
+use Rattle.checker.specs.Faults as check
 use Rattle.page.specs.declared.faults.ConsoleFault.{ConsoleFault}
 use Rattle.page.specs.declared.faults.ConsoleFault.TheVariants.{Page, Rule}
 use Rattle.layout.specs.Faults.{fault_number, fault_line}

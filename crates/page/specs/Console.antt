@@ -7,10 +7,10 @@ use Rattle.program.specs.Meaning.{Prog}
 use Rattle.program.specs.Graphs.{graph}
 use Rattle.rules.specs.Postorder.{lines_of}
 use Rattle.reader.specs.Answer as reader
-use Rattle.check.specs.declared.faults.CheckFault.{CheckFault}
-use Rattle.check.specs.declared.faults.CheckFault.TheVariants.{Text, NoStage, DeadEnd, StillCycle, ShortMemory}
-use Rattle.check.specs.Outcomes.{Checkable, IsDeadEnd, AllOnward, Cycle}
-use Rattle.check.specs.Checks.{Reads}
+use Rattle.checker.specs.declared.faults.CheckFault.{CheckFault}
+use Rattle.checker.specs.declared.faults.CheckFault.TheVariants.{Text, NoStage, DeadEnd, StillCycle, ShortMemory}
+use Rattle.checker.specs.Outcomes.{Checkable, IsDeadEnd, AllOnward, Cycle}
+use Rattle.checker.specs.Checks.{Reads}
 use Rattle.layout.specs.declared.loading.Part.TheVariants.{Rules}
 use Rattle.layout.specs.Splits.{Lacks}
 use Rattle.layout.specs.Lines.{write, rule}

@@ -4,7 +4,7 @@ ghost use Rattle.page.specs.Answers.{field, separator, holds_in, stages_of, hold
 ghost use Rattle.page.specs.Answers.{answer_of, rule_bytes, Lined};
 
 use crate::faults::ConsoleFault;
-use check::faults::CheckFault;
+use checker::faults::CheckFault;
 use std::alloc::AllocError;
 
 // Appends a number to `out`.

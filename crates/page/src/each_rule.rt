@@ -3,7 +3,7 @@ ghost use Rattle.std.specs.Prelude.{IfOk};
 ghost use Rattle.page.specs.Console.{NextRule, Adds, AddsAll};
 
 use crate::answers::write_rule;
-use check::check;
+use checker::check;
 use layout::line::PageLine;
 use layout::loading::{Part, next_line};
 use program::{MOST_STAGES, Program};

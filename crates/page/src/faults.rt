@@ -1,5 +1,5 @@
 // Why the console refuses a page or one of its rules.
-use check::CheckFault;
+use checker::CheckFault;
 use layout::faults::PageFault;
 
 // The fault below is carried whole.

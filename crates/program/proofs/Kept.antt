@@ -16,8 +16,8 @@ use Rattle.program.specs.Edits.{Caps, Out, Does, accepted, refused, open_step, m
 use Rattle.program.specs.Edits.{is_open, leads, last_stage, with_stage, with_marks, with_move, with_cut, with_join}
 use Rattle.program.specs.Steps.{step}
 use Rattle.program.specs.Tidy.{OpenAt, SilentAt, JustOne, Way, there, on, Onward, Tidy, StaysTidy}
-use Rattle.program.proofs.Splits.{size, count, not_both, tidy-up, tidy-down}
-use Rattle.program.proofs.Cuts.{cut-splits, join-splits}
+use Rattle.program.proofs.Splits.{size, count, not_both, tidy_up, tidy_down}
+use Rattle.program.proofs.Cuts.{cut_splits, join_splits}
 
 pub open_from : (k : Kind) → is_open k ≡ true → k ≡ Open
 open_from Open e = refl
@@ -40,13 +40,13 @@ record Grown (p q : Prog) : Type 0 where
   new_short : (m : ℕ) → m < count q → count p ≤ m → (move_at q m).minutes ≤ most_minutes
 
 module _ (p q : Prog) (G : Grown p q) where
-  way-kept : {s c : ℕ} → Way p s c → Way q s c
-  way-kept (there {s} o) = there (G.opens s o)
-  way-kept (on {s} {c} {d} m lm e si w ed) =
+  way_kept : {s c : ℕ} → Way p s c → Way q s c
+  way_kept (there {s} o) = there (G.opens s o)
+  way_kept (on {s} {c} {d} m lm e si w ed) =
       let h = G.longer in
       let same = G.same m lm in
       on m (omega arith) (ap (λ (x : Move). x.leaves) same ∙ e) (G.hush s si)
-      (subst (λ (x : Move). Way q x.enters c) (sym same) (way-kept w))
+      (subst (λ (x : Move). Way q x.enters c) (sym same) (way_kept w))
       (ed ∙ ap (λ (x : Move). x.minutes + c) (sym same))
 
   module _ (tidy : Tidy p) where
@@ -73,26 +73,26 @@ module _ (p q : Prog) (G : Grown p q) where
         (λ o. ((G.new_from m l o).0, (G.new_to m l o).0, G.new_short m l o))
         (cases_lt m (count p))
 
-    onward-kept : (m : ℕ) → m < count q → Onward q m
-    onward-kept m l =
+    onward_kept : (m : ℕ) → m < count q → Onward q m
+    onward_kept m l =
         ⊎_elim
         (λ o.
         let n = tidy.onward m o in
         subst (λ (x : Move). (r : ℕ) → Way q x.enters r → x.minutes + r ≤ most_minutes → Onward q m) (G.same m o)
         (λ r w h. record { rest = r; way = w; short = h })
-        n.rest (way-kept n.way) n.short)
+        n.rest (way_kept n.way) n.short)
         (λ o.
         let h = G.new_short m l o in
         record { rest = 0; way = there (G.new_to m l o); short = omega arith })
         (cases_lt m (count p))
 
-    tidy-kept : Tidy q
-    tidy-kept =
+    tidy_kept : Tidy q
+    tidy_kept =
         record {
           ends = fits_kept;
           one_in = λ s si. one_kept (λ (m : Move). m.enters) G.new_to s si (tidy.one_in s (G.back s si));
           one_out = λ s si. one_kept (λ (m : Move). m.leaves) G.new_from s si (tidy.one_out s (G.back s si));
-          onward = onward-kept;
+          onward = onward_kept;
         }
 
 -- open
@@ -104,28 +104,28 @@ module _ (p : Prog) (m : ℕ) where
   abbrev q : Prog
   q = with_stage p m
 
-  q-size : size q ≡ suc (size p)
-  q-size = let e = length-append p.stages (new ∷ []) in omega arith
+  q_size : size q ≡ suc (size p)
+  q_size = let e = length-append p.stages (new ∷ []) in omega arith
 
-  q-kind : (s : ℕ) → s < size p → (stage_at q s).kind ≡ (stage_at p s).kind
-  q-kind s l = ap (λ (x : Stage). x.kind) (get_or_append_left p.stages (new ∷ []) no_stage s l)
+  q_kind : (s : ℕ) → s < size p → (stage_at q s).kind ≡ (stage_at p s).kind
+  q_kind s l = ap (λ (x : Stage). x.kind) (get_or_append_left p.stages (new ∷ []) no_stage s l)
 
-  q-last : (stage_at q (size p)).kind ≡ Open
-  q-last = ap (λ (x : Stage). x.kind) (get_or_push p.stages new no_stage (size p) refl)
+  q_last : (stage_at q (size p)).kind ≡ Open
+  q_last = ap (λ (x : Stage). x.kind) (get_or_push p.stages new no_stage (size p) refl)
 
-  q-old : (s : ℕ) → SilentAt q s → s < size p
-  q-old s si =
-      let z = q-size in
-      ⊎_elim (λ (e : s ≡ size p). absurd (not_both q s (subst (λ x. (stage_at q x).kind ≡ Open) (sym e) q-last) si.1))
+  q_old : (s : ℕ) → SilentAt q s → s < size p
+  q_old s si =
+      let z = q_size in
+      ⊎_elim (λ (e : s ≡ size p). absurd (not_both q s (subst (λ x. (stage_at q x).kind ≡ Open) (sym e) q_last) si.1))
       (λ e. omega (arith, si.0)) (cases_eq s (size p))
 
-  opened-grown : Grown p (with_stage p m)
-  opened-grown =
+  opened_grown : Grown p (with_stage p m)
+  opened_grown =
       record {
-        opens = λ s o. (let e = q-size in omega (arith, o.0), q-kind s o.0 ∙ o.1);
-        hush = λ s si. (let e = q-size in omega (arith, si.0), q-kind s si.0 ∙ si.1);
-        back = λ s si. let l = q-old s si in (l, sym (q-kind s l) ∙ si.1);
-        bigger = let e = q-size in omega arith;
+        opens = λ s o. (let e = q_size in omega (arith, o.0), q_kind s o.0 ∙ o.1);
+        hush = λ s si. (let e = q_size in omega (arith, si.0), q_kind s si.0 ∙ si.1);
+        back = λ s si. let l = q_old s si in (l, sym (q_kind s l) ∙ si.1);
+        bigger = let e = q_size in omega arith;
         longer = omega arith;
         same = λ k l. refl;
         new_from = λ k l h. absurd (omega arith);
@@ -142,8 +142,8 @@ module _ (p : Prog) (s m : ℕ) (ls : s < size p) where
   abbrev r : Prog
   r = with_marks p s m
 
-  r-kind : (x : ℕ) → (stage_at r x).kind ≡ (stage_at p x).kind
-  r-kind x =
+  r_kind : (x : ℕ) → (stage_at r x).kind ≡ (stage_at p x).kind
+  r_kind x =
       ⊎_elim
       (λ e.
       subst (λ y. (stage_at r y).kind ≡ (stage_at p y).kind) (sym e)
@@ -151,16 +151,16 @@ module _ (p : Prog) (s m : ℕ) (ls : s < size p) where
       (λ e. ap (λ (y : Stage). y.kind) (get_or-set_other p.stages s x changed no_stage e))
       (cases_eq x s)
 
-  r-size : size r ≡ size p
-  r-size = length-set p.stages s changed
+  r_size : size r ≡ size p
+  r_size = length-set p.stages s changed
 
-  remarked-grown : Grown p (with_marks p s m)
-  remarked-grown =
+  remarked_grown : Grown p (with_marks p s m)
+  remarked_grown =
       record {
-        opens = λ x o. (let e = r-size in omega (arith, o.0), r-kind x ∙ o.1);
-        hush = λ x si. (let e = r-size in omega (arith, si.0), r-kind x ∙ si.1);
-        back = λ x si. (let e = r-size in omega (arith, si.0), sym (r-kind x) ∙ si.1);
-        bigger = let e = r-size in omega arith;
+        opens = λ x o. (let e = r_size in omega (arith, o.0), r_kind x ∙ o.1);
+        hush = λ x si. (let e = r_size in omega (arith, si.0), r_kind x ∙ si.1);
+        back = λ x si. (let e = r_size in omega (arith, si.0), sym (r_kind x) ∙ si.1);
+        bigger = let e = r_size in omega arith;
         longer = omega arith;
         same = λ k l. refl;
         new_from = λ k l h. absurd (omega arith);
@@ -174,24 +174,24 @@ module _ (p : Prog) (s d t : ℕ) (os : OpenAt p s) (ot : OpenAt p t) (ld : d �
   abbrev w : Prog
   w = with_move p s d t
 
-  w-count : count w ≡ suc (count p)
-  w-count = let e = length-append p.moves (leads s d t ∷ []) in omega arith
+  w_count : count w ≡ suc (count p)
+  w_count = let e = length-append p.moves (leads s d t ∷ []) in omega arith
 
-  w-new : (m : ℕ) → m < count w → count p ≤ m → move_at w m ≡ leads s d t
-  w-new m l h = let e = w-count in get_or_push p.moves (leads s d t) no_move m (omega arith)
+  w_new : (m : ℕ) → m < count w → count p ≤ m → move_at w m ≡ leads s d t
+  w_new m l h = let e = w_count in get_or_push p.moves (leads s d t) no_move m (omega arith)
 
-  laid-grown : Grown p (with_move p s d t)
-  laid-grown =
+  laid_grown : Grown p (with_move p s d t)
+  laid_grown =
       record {
         opens = λ x o. o;
         hush = λ x si. si;
         back = λ x si. si;
         bigger = omega arith;
-        longer = let e = w-count in omega arith;
+        longer = let e = w_count in omega arith;
         same = λ m l. get_or_append_left p.moves (leads s d t ∷ []) no_move m l;
-        new_from = λ m l h. subst (λ (x : Move). OpenAt p x.leaves) (sym (w-new m l h)) os;
-        new_to = λ m l h. subst (λ (x : Move). OpenAt p x.enters) (sym (w-new m l h)) ot;
-        new_short = λ m l h. subst (λ (x : Move). x.minutes ≤ most_minutes) (sym (w-new m l h)) ld;
+        new_from = λ m l h. subst (λ (x : Move). OpenAt p x.leaves) (sym (w_new m l h)) os;
+        new_to = λ m l h. subst (λ (x : Move). OpenAt p x.enters) (sym (w_new m l h)) ot;
+        new_short = λ m l h. subst (λ (x : Move). x.minutes ≤ most_minutes) (sym (w_new m l h)) ld;
       }
 
 -- The steps
@@ -200,21 +200,21 @@ module _ (p : Prog) where
   abbrev Keeps : Out → Type 0
   Keeps o = StaysTidy p o.after
 
-  open-step-tidy : (caps : Caps) (m : ℕ) → Keeps (open_step caps p m)
-  open-step-tidy caps m =
+  open_step_tidy : (caps : Caps) (m : ℕ) → Keeps (open_step caps p m)
+  open_step_tidy caps m =
       cond_both (ltb (size p) caps.stages) (accepted (size p) (with_stage p m)) (refused StagesFull p) Keeps
-      (λ e t. tidy-kept p (with_stage p m) (opened-grown p m) t) (λ e t. t)
+      (λ e t. tidy_kept p (with_stage p m) (opened_grown p m) t) (λ e t. t)
 
-  mark-step-tidy : (s m : ℕ) → Keeps (mark_step p s m)
-  mark-step-tidy s m =
+  mark_step_tidy : (s m : ℕ) → Keeps (mark_step p s m)
+  mark_step_tidy s m =
       cond_both (ltb s (size p)) _ (refused NoStage p) Keeps
       (λ e.
       cond_both (is_open (stage_at p s).kind) (accepted s (with_marks p s m)) (refused SilentStage p) Keeps
-      (λ o t. tidy-kept p (with_marks p s m) (remarked-grown p s m (ltb-true s (size p) e)) t) (λ o t. t))
+      (λ o t. tidy_kept p (with_marks p s m) (remarked_grown p s m (ltb-true s (size p) e)) t) (λ o t. t))
       (λ e t. t)
 
-  lay-step-tidy : (caps : Caps) (s d u : ℕ) → Keeps (lay_step caps p s d u)
-  lay-step-tidy caps s d u =
+  lay_step_tidy : (caps : Caps) (s d u : ℕ) → Keeps (lay_step caps p s d u)
+  lay_step_tidy caps s d u =
       cond_both (ltb s (size p)) _ (refused NoStage p) Keeps
       (λ ls.
       cond_both (ltb u (size p)) _ (refused NoStage p) Keeps
@@ -229,7 +229,7 @@ module _ (p : Prog) where
       (λ h t.
       let a : OpenAt p s = (ltb-true s (size p) ls, open_from (stage_at p s).kind os) in
       let b : OpenAt p u = (ltb-true u (size p) lu, open_from (stage_at p u).kind ou) in
-      tidy-kept p (with_move p s d u) (laid-grown p s d u a b (leb-true d most_minutes ld)) t)
+      tidy_kept p (with_move p s d u) (laid_grown p s d u a b (leb-true d most_minutes ld)) t)
       (λ h t. t))
       (λ ld t. t))
       (λ ou t. t))
@@ -237,8 +237,8 @@ module _ (p : Prog) where
       (λ lu t. t))
       (λ ls t. t)
 
-  cut-step-tidy : (caps : Caps) (k a : ℕ) → Keeps (cut_step caps p k a)
-  cut-step-tidy caps k a =
+  cut_step_tidy : (caps : Caps) (k a : ℕ) → Keeps (cut_step caps p k a)
+  cut_step_tidy caps k a =
       cond_both (ltb k (count p)) _ (refused NoMove p) Keeps
       (λ lk.
       cond_both (leb a (move_at p k).minutes) _ (refused TooLong p) Keeps
@@ -247,8 +247,8 @@ module _ (p : Prog) where
       (λ h.
       cond_both (ltb (count p) caps.moves) (accepted (size p) (with_cut p k a)) (refused MovesFull p) Keeps
       (λ h' t.
-      tidy-up p (with_cut p k a)
-      (cut-splits p (λ m l. (t.ends m l).0) (λ m l. (t.ends m l).1) k a (ltb-true k (count p) lk)
+      tidy_up p (with_cut p k a)
+      (cut_splits p (λ m l. (t.ends m l).0) (λ m l. (t.ends m l).1) k a (ltb-true k (count p) lk)
       (leb-true a (move_at p k).minutes la))
       t)
       (λ h' t. t))
@@ -260,27 +260,27 @@ module _ (p : Prog) where
   joinable some hushed =
       let l = ltb-true 0 (size p) some in (omega arith, silent_from (stage_at p (last_stage p)).kind hushed)
 
-  join-step-tidy : Keeps (join_step p)
-  join-step-tidy =
+  join_step_tidy : Keeps (join_step p)
+  join_step_tidy =
       cond_both (ltb 0 (size p)) _ (refused NothingToJoin p) Keeps
       (λ some.
       cond_both (is_open (stage_at p (last_stage p)).kind) (refused NothingToJoin p)
       (accepted (last_stage p) (with_join p)) Keeps
       (λ o t. t)
-      (λ hushed t. tidy-down (with_join p) p (join-splits p t (joinable some hushed)) t))
+      (λ hushed t. tidy_down (with_join p) p (join_splits p t (joinable some hushed)) t))
       (λ none t. t)
 
-  pub step-tidy : (caps : Caps) (e : Edit) → Keeps (step caps p e)
-  step-tidy caps (edit.Open m) = open-step-tidy caps m
-  step-tidy caps (edit.Mark s m) = mark-step-tidy s m
-  step-tidy caps (edit.Lay s d u) = lay-step-tidy caps s d u
-  step-tidy caps (edit.Cut k a) = cut-step-tidy caps k a
-  step-tidy caps edit.Join = join-step-tidy
+  pub step_tidy : (caps : Caps) (e : Edit) → Keeps (step caps p e)
+  step_tidy caps (edit.Open m) = open_step_tidy caps m
+  step_tidy caps (edit.Mark s m) = mark_step_tidy s m
+  step_tidy caps (edit.Lay s d u) = lay_step_tidy caps s d u
+  step_tidy caps (edit.Cut k a) = cut_step_tidy caps k a
+  step_tidy caps edit.Join = join_step_tidy
 
 -- What an implementation answers for the clause `tidy` of an edit, from its clause `does`.
 pub does_tidy : (caps : Caps) (p q : Prog) (e : Edit) (r : Result ℕ EditFault) → (Tidy p → Does (step caps p e) r q)
     → StaysTidy p q
-does_tidy caps p q e r does t = subst (λ (x : Prog). Tidy x) (sym (does t).leaves) (step-tidy p caps e t)
+does_tidy caps p q e r does t = subst (λ (x : Prog). Tidy x) (sym (does t).leaves) (step_tidy p caps e t)
 
 pub empty_tidy : Tidy empty
 empty_tidy =

@@ -55,35 +55,35 @@ module _ (q p : Prog) (S : Split q p) where
 
   -- Stages
 
-  pub split-size : size p ≡ suc (size q)
-  split-size =
+  pub split_size : size p ≡ suc (size q)
+  split_size =
       ap length S.stages ∙ length-append q.stages (S.extra ∷ [])
       ∙ (let z : size q + 1 ≡ suc (size q) = omega arith in z)
 
-  stage-old : (s : ℕ) → s < size q → stage_at p s ≡ stage_at q s
-  stage-old s l =
+  stage_old : (s : ℕ) → s < size q → stage_at p s ≡ stage_at q s
+  stage_old s l =
       ap (λ (xs : List Stage). get_or xs s no_stage) S.stages
       ∙ get_or_append_left q.stages (S.extra ∷ []) no_stage s l
 
-  stage-last : stage_at p (size q) ≡ S.extra
-  stage-last =
+  stage_last : stage_at p (size q) ≡ S.extra
+  stage_last =
       ap (λ (xs : List Stage). get_or xs (size q) no_stage) S.stages
       ∙ get_or_push q.stages S.extra no_stage (size q) refl
 
   open_up : (s : ℕ) → OpenAt q s → OpenAt p s
-  open_up s o = (let e = split-size in omega (arith, o.0), ap (λ (x : Stage). x.kind) (stage-old s o.0) ∙ o.1)
+  open_up s o = (let e = split_size in omega (arith, o.0), ap (λ (x : Stage). x.kind) (stage_old s o.0) ∙ o.1)
 
-  open-down : (s : ℕ) → s < size q → OpenAt p s → OpenAt q s
-  open-down s l o = (l, ap (λ (x : Stage). x.kind) (sym (stage-old s l)) ∙ o.1)
+  open_down : (s : ℕ) → s < size q → OpenAt p s → OpenAt q s
+  open_down s l o = (l, ap (λ (x : Stage). x.kind) (sym (stage_old s l)) ∙ o.1)
 
-  silent-last : SilentAt p (size q)
-  silent-last = (let e = split-size in omega arith, ap (λ (x : Stage). x.kind) stage-last ∙ S.hushed)
+  silent_last : SilentAt p (size q)
+  silent_last = (let e = split_size in omega arith, ap (λ (x : Stage). x.kind) stage_last ∙ S.hushed)
 
-  silent-up : (s : ℕ) → SilentAt q s → SilentAt p s
-  silent-up s h = (let e = split-size in omega (arith, h.0), ap (λ (x : Stage). x.kind) (stage-old s h.0) ∙ h.1)
+  silent_up : (s : ℕ) → SilentAt q s → SilentAt p s
+  silent_up s h = (let e = split_size in omega (arith, h.0), ap (λ (x : Stage). x.kind) (stage_old s h.0) ∙ h.1)
 
-  silent-down : (s : ℕ) → s < size q → SilentAt p s → SilentAt q s
-  silent-down s l h = (l, ap (λ (x : Stage). x.kind) (sym (stage-old s l)) ∙ h.1)
+  silent_down : (s : ℕ) → s < size q → SilentAt p s → SilentAt q s
+  silent_down s l h = (l, ap (λ (x : Stage). x.kind) (sym (stage_old s l)) ∙ h.1)
 
   -- Moves
 
@@ -94,16 +94,16 @@ module _ (q p : Prog) (S : Split q p) where
   pub sort : (x : ℕ) → x < count p → Sort x
   sort x l = ⊎_elim (λ e. inl e) (λ e. inr (S.up_all x l e)) (cases_eq x out)
 
-  pub leaves-up : (m : ℕ) → m < count q → (move_at p (up m)).leaves ≡ (move_at q m).leaves
-  leaves-up m l =
+  pub leaves_up : (m : ℕ) → m < count q → (move_at p (up m)).leaves ≡ (move_at q m).leaves
+  leaves_up m l =
       ⊎_elim (λ e. subst (λ x. (move_at p (up x)).leaves ≡ (move_at q x).leaves) (sym e) S.in_leaves)
       (λ e. ap (λ (x : Move). x.leaves) (S.same m l e)) (cases_eq m k)
 
-  pub enters-up : (m : ℕ) → m < count q → (m ≡ k → ⊥) → (move_at p (up m)).enters ≡ (move_at q m).enters
-  enters-up m l e = ap (λ (x : Move). x.enters) (S.same m l e)
+  pub enters_up : (m : ℕ) → m < count q → (m ≡ k → ⊥) → (move_at p (up m)).enters ≡ (move_at q m).enters
+  enters_up m l e = ap (λ (x : Move). x.enters) (S.same m l e)
 
-  pub minutes-up : (m : ℕ) → m < count q → (m ≡ k → ⊥) → (move_at p (up m)).minutes ≡ (move_at q m).minutes
-  minutes-up m l e = ap (λ (x : Move). x.minutes) (S.same m l e)
+  pub minutes_up : (m : ℕ) → m < count q → (m ≡ k → ⊥) → (move_at p (up m)).minutes ≡ (move_at q m).minutes
+  minutes_up m l e = ap (λ (x : Move). x.minutes) (S.same m l e)
 
   -- the only move that leaves the last stage
   pub only_out : (x : ℕ) → x < count p → size q ≤ (move_at p x).leaves → x ≡ out
@@ -113,21 +113,21 @@ module _ (q p : Prog) (S : Split q p) where
       go (inl e) = e
       go (inr o) =
           let a : (move_at p x).leaves ≡ (move_at q o.0).leaves =
-          ap (λ y. (move_at p y).leaves) (sym o.2) ∙ leaves-up o.0 o.1 in
+          ap (λ y. (move_at p y).leaves) (sym o.2) ∙ leaves_up o.0 o.1 in
           let b = S.from o.0 o.1 in
           absurd (omega arith)
 
   -- where a move other than `out` enters: the last stage, or what its move of q does
-  enters-of : (m x : ℕ) → m < count q → up m ≡ x
+  enters_of : (m x : ℕ) → m < count q → up m ≡ x
       → ((m ≡ k) × ((move_at p x).enters ≡ size q)) ⊎ ((m ≡ k → ⊥) × ((move_at p x).enters ≡ (move_at q m).enters))
-  enters-of m x l e =
+  enters_of m x l e =
       ⊎_elim
       (λ i. inl (i, ap (λ y. (move_at p y).enters) (sym e) ∙ ap (λ y. (move_at p (up y)).enters) i ∙ S.in_enters))
-      (λ i. inr (i, ap (λ y. (move_at p y).enters) (sym e) ∙ enters-up m l i))
+      (λ i. inr (i, ap (λ y. (move_at p y).enters) (sym e) ∙ enters_up m l i))
       (cases_eq m k)
 
   leaves_of : (m x : ℕ) → m < count q → up m ≡ x → (move_at p x).leaves ≡ (move_at q m).leaves
-  leaves_of m x l e = ap (λ y. (move_at p y).leaves) (sym e) ∙ leaves-up m l
+  leaves_of m x l e = ap (λ y. (move_at p y).leaves) (sym e) ∙ leaves_up m l
 
   pub split_from : (x : ℕ) → x < count p → (move_at p x).leaves < size p
   split_from x l = go (sort x l)
@@ -135,27 +135,27 @@ module _ (q p : Prog) (S : Split q p) where
       go : Sort x → (move_at p x).leaves < size p
       go (inl i) =
           let a : (move_at p x).leaves ≡ size q = ap (λ y. (move_at p y).leaves) i ∙ S.out_leaves in
-          let e = split-size in
+          let e = split_size in
           omega arith
       go (inr o) =
           let a = leaves_of o.0 x o.1 o.2 in
           let b = S.from o.0 o.1 in
-          let e = split-size in
+          let e = split_size in
           omega arith
 
-  pub split-to : (x : ℕ) → x < count p → (move_at p x).enters < size p
-  split-to x l = go (sort x l)
+  pub split_to : (x : ℕ) → x < count p → (move_at p x).enters < size p
+  split_to x l = go (sort x l)
     where
       go : Sort x → (move_at p x).enters < size p
       go (inl i) =
           let a : (move_at p x).enters ≡ (move_at q k).enters = ap (λ y. (move_at p y).enters) i ∙ S.out_enters in
           let b = S.to k S.real_k in
-          let e = split-size in
+          let e = split_size in
           omega arith
       go (inr o) =
           let b = S.to o.0 o.1 in
-          let e = split-size in
-          ⊎_elim (λ a. omega (arith, a.1)) (λ a. omega (arith, a.1)) (enters-of o.0 x o.1 o.2)
+          let e = split_size in
+          ⊎_elim (λ a. omega (arith, a.1)) (λ a. omega (arith, a.1)) (enters_of o.0 x o.1 o.2)
 
   -- p is tidy if q is.
 
@@ -168,21 +168,21 @@ module _ (q p : Prog) (S : Split q p) where
           let w'' : Way p (move_at p out).enters c =
           subst (λ x. Way p x c) (ap (λ x. (move_at q x).enters) i ∙ sym S.out_enters) w' in
           let v : Way p (size q) ((move_at p out).minutes + c) =
-          on out S.real_out S.out_leaves silent-last w'' refl in
+          on out S.real_out S.out_leaves silent_last w'' refl in
           let u : (move_at p (up m)).enters ≡ size q = ap (λ x. (move_at p (up x)).enters) i ∙ S.in_enters in
           let t : (move_at q m).minutes ≡ (move_at q k).minutes = ap (λ x. (move_at q x).minutes) i in
           let t' : (move_at p (up m)).minutes ≡ (move_at p (up k)).minutes = ap (λ x. (move_at p (up x)).minutes) i in
           let h = S.sum in
-          on (up m) (S.real_up m lm) (leaves-up m lm ∙ e) (silent-up s si)
+          on (up m) (S.real_up m lm) (leaves_up m lm ∙ e) (silent_up s si)
           (subst (λ x. Way p x ((move_at p out).minutes + c)) (sym u) v) (omega arith)
       go w' (inr i) =
-          let h = minutes-up m lm i in
-          on (up m) (S.real_up m lm) (leaves-up m lm ∙ e) (silent-up s si)
-          (subst (λ x. Way p x c) (sym (enters-up m lm i)) w') (omega arith)
+          let h = minutes_up m lm i in
+          on (up m) (S.real_up m lm) (leaves_up m lm ∙ e) (silent_up s si)
+          (subst (λ x. Way p x c) (sym (enters_up m lm i)) w') (omega arith)
 
   module _ (tq : Tidy q) where
-    out-up : (s : ℕ) → SilentAt p s → JustOne p (λ (m : Move). m.leaves) s
-    out-up s si = go (cases_eq s (size q))
+    out_up : (s : ℕ) → SilentAt p s → JustOne p (λ (m : Move). m.leaves) s
+    out_up s si = go (cases_eq s (size q))
       where
         go : (s ≡ size q) ⊎ (s ≡ size q → ⊥) → JustOne p (λ (m : Move). m.leaves) s
         go (inl e) =
@@ -193,13 +193,13 @@ module _ (q p : Prog) (S : Split q p) where
               alone = λ x l h. only_out x l (omega arith);
             }
         go (inr e) =
-            let z = split-size in
+            let z = split_size in
             let l : s < size q = omega (arith, si.0) in
-            let one = tq.one_out s (silent-down s l si) in
+            let one = tq.one_out s (silent_down s l si) in
             record {
               it = up one.it;
               real = S.real_up one.it one.real;
-              has = leaves-up one.it one.real ∙ one.has;
+              has = leaves_up one.it one.real ∙ one.has;
               alone = λ x lx h.
                   ⊎_elim
                   (λ i.
@@ -209,13 +209,13 @@ module _ (q p : Prog) (S : Split q p) where
                   (sort x lx);
             }
 
-    in-up : (s : ℕ) → SilentAt p s → JustOne p (λ (m : Move). m.enters) s
-    in-up s si = go (cases_eq s (size q))
+    in_up : (s : ℕ) → SilentAt p s → JustOne p (λ (m : Move). m.enters) s
+    in_up s si = go (cases_eq s (size q))
       where
         -- a move of p that enters s is `out`, if k does, or comes from one that does
-        by-case : (s ≡ size q → ⊥) → (one : JustOne q (λ (m : Move). m.enters) s)
+        by_case : (s ≡ size q → ⊥) → (one : JustOne q (λ (m : Move). m.enters) s)
             → (one.it ≡ k) ⊎ (one.it ≡ k → ⊥) → JustOne p (λ (m : Move). m.enters) s
-        by-case e one (inl i) =
+        by_case e one (inl i) =
             record {
               it = out;
               real = S.real_out;
@@ -225,14 +225,14 @@ module _ (q p : Prog) (S : Split q p) where
                   (λ o.
                   ⊎_elim (λ j. absurd (e (sym h ∙ j.1)))
                   (λ j. absurd (j.0 (one.alone o.0 o.1 (sym j.1 ∙ h) ∙ i)))
-                  (enters-of o.0 x o.1 o.2))
+                  (enters_of o.0 x o.1 o.2))
                   (sort x lx);
             }
-        by-case e one (inr i) =
+        by_case e one (inr i) =
             record {
               it = up one.it;
               real = S.real_up one.it one.real;
-              has = enters-up one.it one.real i ∙ one.has;
+              has = enters_up one.it one.real i ∙ one.has;
               alone = λ x lx h.
                   ⊎_elim
                   (λ j.
@@ -241,7 +241,7 @@ module _ (q p : Prog) (S : Split q p) where
                   (λ o.
                   ⊎_elim (λ j. absurd (e (sym h ∙ j.1)))
                   (λ j. sym o.2 ∙ ap up (one.alone o.0 o.1 (sym j.1 ∙ h)))
-                  (enters-of o.0 x o.1 o.2))
+                  (enters_of o.0 x o.1 o.2))
                   (sort x lx);
             }
 
@@ -260,20 +260,20 @@ module _ (q p : Prog) (S : Split q p) where
                   (λ o.
                   let c = S.to o.0 o.1 in
                   ⊎_elim (λ j. sym o.2 ∙ ap up j.0) (λ j. absurd (omega (arith, j.1)))
-                  (enters-of o.0 x o.1 o.2))
+                  (enters_of o.0 x o.1 o.2))
                   (sort x lx);
             }
         go (inr e) =
-            let z = split-size in
+            let z = split_size in
             let l : s < size q = omega (arith, si.0) in
-            let one = tq.one_in s (silent-down s l si) in
-            by-case e one (cases_eq one.it k)
+            let one = tq.one_in s (silent_down s l si) in
+            by_case e one (cases_eq one.it k)
 
-    onward-up : (x : ℕ) → x < count p → Onward p x
-    onward-up x lx = go (sort x lx)
+    onward_up : (x : ℕ) → x < count p → Onward p x
+    onward_up x lx = go (sort x lx)
       where
-        from-k : Way p (move_at p out).enters (tq.onward k S.real_k).rest
-        from-k =
+        from_k : Way p (move_at p out).enters (tq.onward k S.real_k).rest
+        from_k =
             subst (λ y. Way p y (tq.onward k S.real_k).rest) (sym S.out_enters)
             (way_up (tq.onward k S.real_k).way)
 
@@ -282,20 +282,20 @@ module _ (q p : Prog) (S : Split q p) where
             let n = tq.onward k S.real_k in
             let h = S.sum in
             let u = n.short in
-            let si = subst (λ y. SilentAt p y) (sym S.in_enters) silent-last in
+            let si = subst (λ y. SilentAt p y) (sym S.in_enters) silent_last in
             subst (λ y. Onward p (up y)) (sym j)
             (record {
               rest = (move_at p out).minutes + n.rest;
-              way = on out S.real_out (S.out_leaves ∙ sym S.in_enters) si from-k refl;
+              way = on out S.real_out (S.out_leaves ∙ sym S.in_enters) si from_k refl;
               short = omega arith;
             })
         at_up m l (inr j) =
             let n = tq.onward m l in
-            let h = minutes-up m l j in
+            let h = minutes_up m l j in
             let u = n.short in
             record {
               rest = n.rest;
-              way = subst (λ y. Way p y n.rest) (sym (enters-up m l j)) (way_up n.way);
+              way = subst (λ y. Way p y n.rest) (sym (enters_up m l j)) (way_up n.way);
               short = omega arith;
             }
 
@@ -304,16 +304,16 @@ module _ (q p : Prog) (S : Split q p) where
             let n = tq.onward k S.real_k in
             let h = S.sum in
             let u = n.short in
-            subst (λ y. Onward p y) (sym i) (record { rest = n.rest; way = from-k; short = omega arith })
+            subst (λ y. Onward p y) (sym i) (record { rest = n.rest; way = from_k; short = omega arith })
         go (inr o) = subst (λ y. Onward p y) o.2 (at_up o.0 o.1 (cases_eq o.0 k))
 
-    pub tidy-up : Tidy p
-    tidy-up =
+    pub tidy_up : Tidy p
+    tidy_up =
         record {
-          ends = λ m l. let u = (onward-up m l).short in (split_from m l, split-to m l, omega arith);
-          one_in = in-up;
-          one_out = out-up;
-          onward = onward-up;
+          ends = λ m l. let u = (onward_up m l).short in (split_from m l, split_to m l, omega arith);
+          one_in = in_up;
+          one_out = out_up;
+          onward = onward_up;
         }
 
   -- q is tidy if p is.
@@ -325,8 +325,8 @@ module _ (q p : Prog) (S : Split q p) where
 
   way_down : {s c : ℕ} → Way p s c → Down s c
   way_down (there {s} o) = (
-    (λ l. there (open-down s l o)),
-    (λ e. absurd (not_both p (size q) (subst (λ x. (stage_at p x).kind ≡ Open) e o.1) silent-last.1)),
+    (λ l. there (open_down s l o)),
+    (λ e. absurd (not_both p (size q) (subst (λ x. (stage_at p x).kind ≡ Open) e o.1) silent_last.1)),
   )
   way_down (on {s} {c} {d} x lx e si w ed) = (below (way_down w) (sort x lx), last (way_down w))
     where
@@ -334,7 +334,7 @@ module _ (q p : Prog) (S : Split q p) where
       below ih (inl i) l =
           let a : (move_at p x).leaves ≡ size q = ap (λ y. (move_at p y).leaves) i ∙ S.out_leaves in
           absurd (omega arith)
-      below ih (inr o) l = go (enters-of o.0 x o.1 o.2)
+      below ih (inr o) l = go (enters_of o.0 x o.1 o.2)
         where
           leaves-x : (move_at q o.0).leaves ≡ s
           leaves-x = sym (leaves_of o.0 x o.1 o.2) ∙ e
@@ -347,13 +347,13 @@ module _ (q p : Prog) (S : Split q p) where
               let m1 : (move_at p x).minutes ≡ (move_at p (up k)).minutes =
               ap (λ y. (move_at p y).minutes) (sym o.2) ∙ ap (λ y. (move_at p (up y)).minutes) j.0 in
               let h = S.sum in
-              on k S.real_k (ap (λ y. (move_at q y).leaves) (sym j.0) ∙ leaves-x) (silent-down s l si) t.1
+              on k S.real_k (ap (λ y. (move_at q y).leaves) (sym j.0) ∙ leaves-x) (silent_down s l si) t.1
               (omega (arith, t.2))
           go (inr j) =
               let b = S.to o.0 o.1 in
               let m1 : (move_at p x).minutes ≡ (move_at q o.0).minutes =
-              ap (λ y. (move_at p y).minutes) (sym o.2) ∙ minutes-up o.0 o.1 j.0 in
-              on o.0 o.1 leaves-x (silent-down s l si)
+              ap (λ y. (move_at p y).minutes) (sym o.2) ∙ minutes_up o.0 o.1 j.0 in
+              on o.0 o.1 leaves-x (silent_down s l si)
               (subst (λ y. Way q y c) j.1 (ih.0 (omega (arith, j.1)))) (omega arith)
 
       last : Down (move_at p x).enters c → s ≡ size q
@@ -366,11 +366,11 @@ module _ (q p : Prog) (S : Split q p) where
           (c, subst (λ y. Way q y c) a (ih.0 (omega arith)), omega arith)
 
   module _ (tp : Tidy p) where
-    out-down : (s : ℕ) → SilentAt q s → JustOne q (λ (m : Move). m.leaves) s
-    out-down s si = go (sort one.it one.real)
+    out_down : (s : ℕ) → SilentAt q s → JustOne q (λ (m : Move). m.leaves) s
+    out_down s si = go (sort one.it one.real)
       where
         one : JustOne p (λ (m : Move). m.leaves) s
-        one = tp.one_out s (silent-up s si)
+        one = tp.one_out s (silent_up s si)
 
         go : Sort one.it → JustOne q (λ (m : Move). m.leaves) s
         go (inl i) =
@@ -383,14 +383,14 @@ module _ (q p : Prog) (S : Split q p) where
               real = o.1;
               has = sym (leaves_of o.0 one.it o.1 o.2) ∙ one.has;
               alone = λ m l h.
-                  S.up_one m o.0 (one.alone (up m) (S.real_up m l) (leaves-up m l ∙ h) ∙ sym o.2);
+                  S.up_one m o.0 (one.alone (up m) (S.real_up m l) (leaves_up m l ∙ h) ∙ sym o.2);
             }
 
-    in-down : (s : ℕ) → SilentAt q s → JustOne q (λ (m : Move). m.enters) s
-    in-down s si = go (sort one.it one.real)
+    in_down : (s : ℕ) → SilentAt q s → JustOne q (λ (m : Move). m.enters) s
+    in_down s si = go (sort one.it one.real)
       where
         one : JustOne p (λ (m : Move). m.enters) s
-        one = tp.one_in s (silent-up s si)
+        one = tp.one_in s (silent_up s si)
 
         go : Sort one.it → JustOne q (λ (m : Move). m.enters) s
         go (inl i) =
@@ -400,10 +400,10 @@ module _ (q p : Prog) (S : Split q p) where
               has = sym S.out_enters ∙ ap (λ y. (move_at p y).enters) (sym i) ∙ one.has;
               alone = λ m l h.
                   ⊎_elim (λ j. j)
-                  (λ j. absurd (S.up_other m l (one.alone (up m) (S.real_up m l) (enters-up m l j ∙ h) ∙ i)))
+                  (λ j. absurd (S.up_other m l (one.alone (up m) (S.real_up m l) (enters_up m l j ∙ h) ∙ i)))
                   (cases_eq m k);
             }
-        go (inr o) = not-k (enters-of o.0 one.it o.1 o.2)
+        go (inr o) = not-k (enters_of o.0 one.it o.1 o.2)
           where
             not-k : ((o.0 ≡ k) × ((move_at p one.it).enters ≡ size q))
                 ⊎ ((o.0 ≡ k → ⊥) × ((move_at p one.it).enters ≡ (move_at q o.0).enters))
@@ -420,12 +420,12 @@ module _ (q p : Prog) (S : Split q p) where
                       let a = S.out_enters ∙ ap (λ y. (move_at q y).enters) (sym i) ∙ h in
                       absurd (S.up_other o.0 o.1 (o.2 ∙ sym (one.alone out S.real_out a))))
                       (λ i.
-                      S.up_one m o.0 (one.alone (up m) (S.real_up m l) (enters-up m l i ∙ h) ∙ sym o.2))
+                      S.up_one m o.0 (one.alone (up m) (S.real_up m l) (enters_up m l i ∙ h) ∙ sym o.2))
                       (cases_eq m k);
                 }
 
-    onward-down : (m : ℕ) → m < count q → Onward q m
-    onward-down m l = go (cases_eq m k)
+    onward_down : (m : ℕ) → m < count q → Onward q m
+    onward_down m l = go (cases_eq m k)
       where
         go : (m ≡ k) ⊎ (m ≡ k → ⊥) → Onward q m
         go (inl i) =
@@ -436,9 +436,9 @@ module _ (q p : Prog) (S : Split q p) where
             subst (λ y. Onward q y) (sym i) (record { rest = t.0; way = t.1; short = omega (arith) })
         go (inr i) =
             let n = tp.onward (up m) (S.real_up m l) in
-            let e = enters-up m l i in
+            let e = enters_up m l i in
             let b = S.to m l in
-            let h = minutes-up m l i in
+            let h = minutes_up m l i in
             let u = n.short in
             record {
               rest = n.rest;
@@ -446,11 +446,11 @@ module _ (q p : Prog) (S : Split q p) where
               short = omega arith;
             }
 
-    pub tidy-down : Tidy q
-    tidy-down =
+    pub tidy_down : Tidy q
+    tidy_down =
         record {
-          ends = λ m l. let u = (onward-down m l).short in (S.from m l, S.to m l, omega arith);
-          one_in = in-down;
-          one_out = out-down;
-          onward = onward-down;
+          ends = λ m l. let u = (onward_down m l).short in (S.from m l, S.to m l, omega arith);
+          one_in = in_down;
+          one_out = out_down;
+          onward = onward_down;
         }

@@ -12,10 +12,10 @@ use Rattle.signs.specs.declared.Sign.{Sign}
 use Rattle.signs.specs.declared.Sign.TheVariants.{Open, Close, OpenSquare, CloseSquare, Bang, Amp, Bar, Each}
 use Rattle.reader.specs.Grammar.{IsBound, IsRule, IsTerm, IsItem, until_signs}
 use Rattle.reader.specs.Grammar as grammar
-use Rattle.reader.specs.Parts.{Limit, plain, at_most, at_least, Formula, Terms, Term, Items, Item, terms, no-term, bar}
+use Rattle.reader.specs.Parts.{Limit, plain, at_most, at_least, Formula, Terms, Term, Items, Item, terms, no_term, bar}
 use Rattle.reader.specs.Parts.{items, no_item, amp, one, letter, not, round, until, spell_limit, bound_of}
-use Rattle.reader.specs.Parts.{spell-formula, spell-terms, spell-term, spell-items, spell-item, tree-formula}
-use Rattle.reader.specs.Parts.{tree-terms, tree-term, tree-items, tree-item}
+use Rattle.reader.specs.Parts.{spell_formula, spell_terms, spell_term, spell_items, spell_item, tree_formula}
+use Rattle.reader.specs.Parts.{tree_terms, tree_term, tree_items, tree_item}
 use Rattle.reader.proofs.Steps.{snoc_item, spell_snoc_item, tree_snoc_item, snoc_term, spell_snoc_term, tree_snoc_term}
 
 tree_bound : Bound → tree.Bound
@@ -42,45 +42,45 @@ pub record Parted {F : Type 0} (spell : F → List Sign → List Sign) (grown : 
   pub grows : f ≡ grown part
 
 abbrev PartedRule : List Sign → Rule → Type 0
-PartedRule ss f = Parted spell-formula tree-formula ss f
+PartedRule ss f = Parted spell_formula tree_formula ss f
 
 abbrev PartedTerm : List Sign → Rule → Type 0
-PartedTerm ss f = Parted spell-term tree-term ss f
+PartedTerm ss f = Parted spell_term tree_term ss f
 
 abbrev PartedItem : List Sign → Rule → Type 0
-PartedItem ss f = Parted spell-item tree-item ss f
+PartedItem ss f = Parted spell_item tree_item ss f
 
 snoc_formula : Formula → Term → Formula
 snoc_formula (terms t ts) u = terms t (snoc_term ts u)
 
 spell_snoc_formula : (p : Formula) (u : Term) (ss : List Sign)
-    → spell-formula (snoc_formula p u) ss ≡ spell-formula p (Bar ∷ spell-term u ss)
-unfolding spell-formula snoc_formula
-spell_snoc_formula (terms t ts) u ss = ap (spell-term t) (spell_snoc_term ts u ss)
+    → spell_formula (snoc_formula p u) ss ≡ spell_formula p (Bar ∷ spell_term u ss)
+unfolding spell_formula snoc_formula
+spell_snoc_formula (terms t ts) u ss = ap (spell_term t) (spell_snoc_term ts u ss)
 
 tree_snoc_formula : (p : Formula) (u : Term)
-    → tree-formula (snoc_formula p u) ≡ tree.either (tree-formula p) (tree-term u)
-unfolding tree-formula snoc_formula
-tree_snoc_formula (terms t ts) u = tree_snoc_term ts u (tree-term t)
+    → tree_formula (snoc_formula p u) ≡ tree.either (tree_formula p) (tree_term u)
+unfolding tree_formula snoc_formula
+tree_snoc_formula (terms t ts) u = tree_snoc_term ts u (tree_term t)
 
 snoc_in_term : Term → Item → Term
 snoc_in_term (items i is) j = items i (snoc_item is j)
 
 spell_snoc_in_term : (p : Term) (j : Item) (ss : List Sign)
-    → spell-term (snoc_in_term p j) ss ≡ spell-term p (Amp ∷ spell-item j ss)
-unfolding spell-formula snoc_in_term
-spell_snoc_in_term (items i is) j ss = ap (spell-item i) (spell_snoc_item is j ss)
+    → spell_term (snoc_in_term p j) ss ≡ spell_term p (Amp ∷ spell_item j ss)
+unfolding spell_formula snoc_in_term
+spell_snoc_in_term (items i is) j ss = ap (spell_item i) (spell_snoc_item is j ss)
 
-tree_snoc_in_term : (p : Term) (j : Item) → tree-term (snoc_in_term p j) ≡ tree.both (tree-term p) (tree-item j)
-unfolding tree-formula snoc_in_term
-tree_snoc_in_term (items i is) j = tree_snoc_item is j (tree-item i)
+tree_snoc_in_term : (p : Term) (j : Item) → tree_term (snoc_in_term p j) ≡ tree.both (tree_term p) (tree_item j)
+unfolding tree_formula snoc_in_term
+tree_snoc_in_term (items i is) j = tree_snoc_item is j (tree_item i)
 
 parted_term : {ss : List Sign} {f : Rule} → PartedTerm ss f → PartedRule ss f
-unfolding spell-formula tree-formula
-parted_term h = record { part = terms h.part no-term; spells = h.spells; grows = h.grows }
+unfolding spell_formula tree_formula
+parted_term h = record { part = terms h.part no_term; spells = h.spells; grows = h.grows }
 
 parted_item : {ss : List Sign} {f : Rule} → PartedItem ss f → PartedTerm ss f
-unfolding spell-formula tree-formula
+unfolding spell_formula tree_formula
 parted_item h = record { part = items h.part no_item; spells = h.spells; grows = h.grows }
 
 parted_bar : {ss us : List Sign} {f g : Rule} → PartedRule ss f
@@ -89,7 +89,7 @@ parted_bar {ss} {us} h k =
     record {
       part = snoc_formula h.part k.part;
       spells = λ vs.
-          append_assoc ss (Bar ∷ us) vs ∙ h.spells (Bar ∷ (us ++ vs)) ∙ ap (λ xs. spell-formula h.part (Bar ∷ xs))
+          append_assoc ss (Bar ∷ us) vs ∙ h.spells (Bar ∷ (us ++ vs)) ∙ ap (λ xs. spell_formula h.part (Bar ∷ xs))
           (k.spells vs)
           ∙ sym (spell_snoc_formula h.part k.part vs);
       grows = cc (h.grows, k.grows, tree_snoc_formula h.part k.part);
@@ -101,7 +101,7 @@ parted_amp {ss} {us} h k =
     record {
       part = snoc_in_term h.part k.part;
       spells = λ vs.
-          append_assoc ss (Amp ∷ us) vs ∙ h.spells (Amp ∷ (us ++ vs)) ∙ ap (λ xs. spell-term h.part (Amp ∷ xs))
+          append_assoc ss (Amp ∷ us) vs ∙ h.spells (Amp ∷ (us ++ vs)) ∙ ap (λ xs. spell_term h.part (Amp ∷ xs))
           (k.spells vs)
           ∙ sym (spell_snoc_in_term h.part k.part vs);
       grows = cc (h.grows, k.grows, tree_snoc_in_term h.part k.part);
@@ -109,13 +109,13 @@ parted_amp {ss} {us} h k =
 
 parted_bang : {ss : List Sign} {f : Rule} → PartedItem ss f
     → PartedItem (Bang ∷ ss) (tree.not f)
-unfolding spell-formula tree-formula
+unfolding spell_formula tree_formula
 parted_bang h =
     record { part = not h.part; spells = λ vs. ap (λ xs. Bang ∷ xs) (h.spells vs); grows = ap tree.not h.grows }
 
 parted_round : {ss : List Sign} {f : Rule} → PartedRule ss f
     → PartedItem (Open ∷ (ss ++ (Close ∷ []))) f
-unfolding spell-formula tree-formula
+unfolding spell_formula tree_formula
 parted_round {ss} h =
     record {
       part = round h.part;
@@ -137,18 +137,18 @@ bounded (grammar.at_least {c}) = record { limit = at_least c; spells = λ us. re
 
 until_spelled : {ss bs us : List Sign} {f g : Rule} {b : tree.Bound} (q : Quantifier) (h : PartedRule ss f)
     (m : Bounded bs b) (k : PartedRule us g) (vs : List Sign)
-    → until_signs q ss bs us ++ vs ≡ spell-item (until q h.part m.limit k.part) vs
-unfolding spell-formula
+    → until_signs q ss bs us ++ vs ≡ spell_item (until q h.part m.limit k.part) vs
+unfolding spell_formula
 until_spelled {ss} {bs} {us} q h m k vs =
     let bound = m.spells (us ++ (CloseSquare ∷ vs)) ∙ ap (spell_limit m.limit) (k.spells (CloseSquare ∷ vs)) in
-    let left = h.spells (bs ++ (us ++ (CloseSquare ∷ vs))) ∙ ap (spell-formula h.part) bound in
+    let left = h.spells (bs ++ (us ++ (CloseSquare ∷ vs))) ∙ ap (spell_formula h.part) bound in
     ap (λ xs. Each q ∷ OpenSquare ∷ xs) (simp append_assoc left)
 
 parted_some : {ss bs us : List Sign} {f g : Rule} {b : tree.Bound} → PartedRule ss f → Bounded bs b → PartedRule us g
     → PartedItem (until_signs quantifier.Some ss bs us) (tree.some_run f b g)
-unfolding spell-formula tree-formula
+unfolding spell_formula tree_formula
 parted_some h m k =
-    let grown = some_is (bound_of m.limit) (tree-formula h.part) (tree-formula k.part) in
+    let grown = some_is (bound_of m.limit) (tree_formula h.part) (tree_formula k.part) in
     record {
       part = until quantifier.Some h.part m.limit k.part;
       spells = until_spelled quantifier.Some h m k;
@@ -157,9 +157,9 @@ parted_some h m k =
 
 parted_each : {ss bs us : List Sign} {f g : Rule} {b : tree.Bound} → PartedRule ss f → Bounded bs b → PartedRule us g
     → PartedItem (until_signs quantifier.All ss bs us) (tree.each_run f b g)
-unfolding spell-formula tree-formula
+unfolding spell_formula tree_formula
 parted_each h m k =
-    let grown = each_is (bound_of m.limit) (tree-formula h.part) (tree-formula k.part) in
+    let grown = each_is (bound_of m.limit) (tree_formula h.part) (tree_formula k.part) in
     record {
       part = until quantifier.All h.part m.limit k.part;
       spells = until_spelled quantifier.All h m k;
@@ -167,23 +167,23 @@ parted_each h m k =
     }
 
 mutual
-  unfolding spell-formula tree-formula
+  unfolding spell_formula tree_formula
 
-  pub rule-parted : {ss : List Sign} {f : Rule} → IsRule ss f → PartedRule ss f
-  rule-parted (grammar.term t) = parted_term (term-parted t)
-  rule-parted (grammar.bar r t) = parted_bar (rule-parted r) (term-parted t)
+  pub rule_parted : {ss : List Sign} {f : Rule} → IsRule ss f → PartedRule ss f
+  rule_parted (grammar.term t) = parted_term (term_parted t)
+  rule_parted (grammar.bar r t) = parted_bar (rule_parted r) (term_parted t)
 
-  term-parted : {ss : List Sign} {f : Rule} → IsTerm ss f → PartedTerm ss f
-  term-parted (grammar.item i) = parted_item (item-parted i)
-  term-parted (grammar.amp t i) = parted_amp (term-parted t) (item-parted i)
+  term_parted : {ss : List Sign} {f : Rule} → IsTerm ss f → PartedTerm ss f
+  term_parted (grammar.item i) = parted_item (item_parted i)
+  term_parted (grammar.amp t i) = parted_amp (term_parted t) (item_parted i)
 
-  item-parted : {ss : List Sign} {f : Rule} → IsItem ss f → PartedItem ss f
-  item-parted grammar.one_sign = record { part = one; spells = λ vs. refl; grows = refl }
-  item-parted (grammar.letter-sign {k}) = record { part = letter k; spells = λ vs. refl; grows = refl }
-  item-parted (grammar.bang i) = parted_bang (item-parted i)
-  item-parted (grammar.round r) = parted_round (rule-parted r)
-  item-parted (grammar.some l b r) = parted_some (rule-parted l) (bounded b) (rule-parted r)
-  item-parted (grammar.each l b r) = parted_each (rule-parted l) (bounded b) (rule-parted r)
+  item_parted : {ss : List Sign} {f : Rule} → IsItem ss f → PartedItem ss f
+  item_parted grammar.one_sign = record { part = one; spells = λ vs. refl; grows = refl }
+  item_parted (grammar.letter_sign {k}) = record { part = letter k; spells = λ vs. refl; grows = refl }
+  item_parted (grammar.bang i) = parted_bang (item_parted i)
+  item_parted (grammar.round r) = parted_round (rule_parted r)
+  item_parted (grammar.some l b r) = parted_some (rule_parted l) (bounded b) (rule_parted r)
+  item_parted (grammar.each l b r) = parted_each (rule_parted l) (bounded b) (rule_parted r)
 
 -- from parts to the grammar
 
@@ -194,34 +194,34 @@ limit_app (at_least n) xs us = refl
 
 -- what is written before xs and then us is written before xs, and then us follows
 mutual
-  unfolding spell-formula
+  unfolding spell_formula
 
-  formula-app : (p : Formula) (xs us : List Sign) → spell-formula p (xs ++ us) ≡ spell-formula p xs ++ us
-  formula-app (terms t ts) xs us = ap (spell-term t) (terms-app ts xs us) ∙ term-app t (spell-terms ts xs) us
+  formula_app : (p : Formula) (xs us : List Sign) → spell_formula p (xs ++ us) ≡ spell_formula p xs ++ us
+  formula_app (terms t ts) xs us = ap (spell_term t) (terms_app ts xs us) ∙ term_app t (spell_terms ts xs) us
 
-  terms-app : (ts : Terms) (xs us : List Sign) → spell-terms ts (xs ++ us) ≡ spell-terms ts xs ++ us
-  terms-app no-term xs us = refl
-  terms-app (bar t ts) xs us =
-      ap (λ ys. Bar ∷ ys) (ap (spell-term t) (terms-app ts xs us) ∙ term-app t (spell-terms ts xs) us)
+  terms_app : (ts : Terms) (xs us : List Sign) → spell_terms ts (xs ++ us) ≡ spell_terms ts xs ++ us
+  terms_app no_term xs us = refl
+  terms_app (bar t ts) xs us =
+      ap (λ ys. Bar ∷ ys) (ap (spell_term t) (terms_app ts xs us) ∙ term_app t (spell_terms ts xs) us)
 
-  term-app : (t : Term) (xs us : List Sign) → spell-term t (xs ++ us) ≡ spell-term t xs ++ us
-  term-app (items i is) xs us = ap (spell-item i) (items-app is xs us) ∙ item-app i (spell-items is xs) us
+  term_app : (t : Term) (xs us : List Sign) → spell_term t (xs ++ us) ≡ spell_term t xs ++ us
+  term_app (items i is) xs us = ap (spell_item i) (items_app is xs us) ∙ item_app i (spell_items is xs) us
 
-  items-app : (is : Items) (xs us : List Sign) → spell-items is (xs ++ us) ≡ spell-items is xs ++ us
-  items-app no_item xs us = refl
-  items-app (amp i is) xs us =
-      ap (λ ys. Amp ∷ ys) (ap (spell-item i) (items-app is xs us) ∙ item-app i (spell-items is xs) us)
+  items_app : (is : Items) (xs us : List Sign) → spell_items is (xs ++ us) ≡ spell_items is xs ++ us
+  items_app no_item xs us = refl
+  items_app (amp i is) xs us =
+      ap (λ ys. Amp ∷ ys) (ap (spell_item i) (items_app is xs us) ∙ item_app i (spell_items is xs) us)
 
-  item-app : (i : Item) (xs us : List Sign) → spell-item i (xs ++ us) ≡ spell-item i xs ++ us
-  item-app one xs us = refl
-  item-app (letter k) xs us = refl
-  item-app (not i) xs us = ap (λ ys. Bang ∷ ys) (item-app i xs us)
-  item-app (round f) xs us = ap (λ ys. Open ∷ ys) (formula-app f (Close ∷ xs) us)
-  item-app (until q f b g) xs us =
+  item_app : (i : Item) (xs us : List Sign) → spell_item i (xs ++ us) ≡ spell_item i xs ++ us
+  item_app one xs us = refl
+  item_app (letter k) xs us = refl
+  item_app (not i) xs us = ap (λ ys. Bang ∷ ys) (item_app i xs us)
+  item_app (round f) xs us = ap (λ ys. Open ∷ ys) (formula_app f (Close ∷ xs) us)
+  item_app (until q f b g) xs us =
       ap (λ ys. Each q ∷ OpenSquare ∷ ys)
-      (ap (λ ys. spell-formula f (spell_limit b ys)) (formula-app g (CloseSquare ∷ xs) us)
-      ∙ ap (spell-formula f) (limit_app b (spell-formula g (CloseSquare ∷ xs)) us)
-      ∙ formula-app f (spell_limit b (spell-formula g (CloseSquare ∷ xs))) us)
+      (ap (λ ys. spell_formula f (spell_limit b ys)) (formula_app g (CloseSquare ∷ xs) us)
+      ∙ ap (spell_formula f) (limit_app b (spell_formula g (CloseSquare ∷ xs)) us)
+      ∙ formula_app f (spell_limit b (spell_formula g (CloseSquare ∷ xs))) us)
 
 limit_is : (b : Limit) → IsBound (spell_limit b []) (tree_bound (bound_of b))
 unfolding tree_bound
@@ -239,50 +239,50 @@ until_is quantifier.All (AtLeast c) l m r = grammar.each l m r
 
 -- the signs of E or A, apart
 until_parts : (q : Quantifier) (f : Formula) (b : Limit) (g : Formula)
-    → until_signs q (spell-formula f []) (spell_limit b []) (spell-formula g []) ≡ spell-item (until q f b g) []
-unfolding spell-formula
+    → until_signs q (spell_formula f []) (spell_limit b []) (spell_formula g []) ≡ spell_item (until q f b g) []
+unfolding spell_formula
 until_parts q f b g =
-    let e = formula-app g [] (CloseSquare ∷ []) in
-    let m = limit_app b [] (spell-formula g (CloseSquare ∷ [])) in
-    let l = formula-app f [] (spell_limit b (spell-formula g (CloseSquare ∷ []))) in
+    let e = formula_app g [] (CloseSquare ∷ []) in
+    let m = limit_app b [] (spell_formula g (CloseSquare ∷ [])) in
+    let l = formula_app f [] (spell_limit b (spell_formula g (CloseSquare ∷ []))) in
     cc
 
 mutual
-  unfolding spell-formula tree-formula
+  unfolding spell_formula tree_formula
 
-  pub formula-is : (p : Formula) → IsRule (spell-formula p []) (tree-formula p)
-  formula-is (terms t ts) =
-      subst (λ ss. IsRule ss (tree-terms ts (tree-term t))) (sym (term-app t [] (spell-terms ts [])))
-      (terms-is ts (grammar.term (term_is t)))
+  pub formula_is : (p : Formula) → IsRule (spell_formula p []) (tree_formula p)
+  formula_is (terms t ts) =
+      subst (λ ss. IsRule ss (tree_terms ts (tree_term t))) (sym (term_app t [] (spell_terms ts [])))
+      (terms_is ts (grammar.term (term_is t)))
 
-  terms-is : (ts : Terms) {ss : List Sign} {f : Rule} → IsRule ss f → IsRule (ss ++ spell-terms ts []) (tree-terms ts f)
-  terms-is no-term {ss} {f} r = subst (λ us. IsRule us f) (sym (append-nil ss)) r
-  terms-is (bar t ts) {ss} {f} r =
-      subst (λ us. IsRule us (tree-terms ts (tree.either f (tree-term t))))
-      (append_assoc ss (Bar ∷ spell-term t []) (spell-terms ts []) ∙ ap (λ us. ss ++ (Bar ∷ us))
-      (sym (term-app t [] (spell-terms ts []))))
-      (terms-is ts (grammar.bar r (term_is t)))
+  terms_is : (ts : Terms) {ss : List Sign} {f : Rule} → IsRule ss f → IsRule (ss ++ spell_terms ts []) (tree_terms ts f)
+  terms_is no_term {ss} {f} r = subst (λ us. IsRule us f) (sym (append-nil ss)) r
+  terms_is (bar t ts) {ss} {f} r =
+      subst (λ us. IsRule us (tree_terms ts (tree.either f (tree_term t))))
+      (append_assoc ss (Bar ∷ spell_term t []) (spell_terms ts []) ∙ ap (λ us. ss ++ (Bar ∷ us))
+      (sym (term_app t [] (spell_terms ts []))))
+      (terms_is ts (grammar.bar r (term_is t)))
 
-  term_is : (t : Term) → IsTerm (spell-term t []) (tree-term t)
+  term_is : (t : Term) → IsTerm (spell_term t []) (tree_term t)
   term_is (items i is) =
-      subst (λ ss. IsTerm ss (tree-items is (tree-item i))) (sym (item-app i [] (spell-items is [])))
-      (items-is is (grammar.item (item-is i)))
+      subst (λ ss. IsTerm ss (tree_items is (tree_item i))) (sym (item_app i [] (spell_items is [])))
+      (items_is is (grammar.item (item_is i)))
 
-  items-is : (is : Items) {ss : List Sign} {f : Rule} → IsTerm ss f → IsTerm (ss ++ spell-items is []) (tree-items is f)
-  items-is no_item {ss} {f} t = subst (λ us. IsTerm us f) (sym (append-nil ss)) t
-  items-is (amp i is) {ss} {f} t =
-      subst (λ us. IsTerm us (tree-items is (tree.both f (tree-item i))))
-      (append_assoc ss (Amp ∷ spell-item i []) (spell-items is []) ∙ ap (λ us. ss ++ (Amp ∷ us))
-      (sym (item-app i [] (spell-items is []))))
-      (items-is is (grammar.amp t (item-is i)))
+  items_is : (is : Items) {ss : List Sign} {f : Rule} → IsTerm ss f → IsTerm (ss ++ spell_items is []) (tree_items is f)
+  items_is no_item {ss} {f} t = subst (λ us. IsTerm us f) (sym (append-nil ss)) t
+  items_is (amp i is) {ss} {f} t =
+      subst (λ us. IsTerm us (tree_items is (tree.both f (tree_item i))))
+      (append_assoc ss (Amp ∷ spell_item i []) (spell_items is []) ∙ ap (λ us. ss ++ (Amp ∷ us))
+      (sym (item_app i [] (spell_items is []))))
+      (items_is is (grammar.amp t (item_is i)))
 
-  item-is : (i : Item) → IsItem (spell-item i []) (tree-item i)
-  item-is one = grammar.one_sign
-  item-is (letter k) = grammar.letter-sign
-  item-is (not i) = grammar.bang (item-is i)
-  item-is (round f) =
-      subst (λ ss. IsItem (Open ∷ ss) (tree-formula f)) (sym (formula-app f [] (Close ∷ [])))
-      (grammar.round (formula-is f))
-  item-is (until q f b g) =
-      subst (λ ss. IsItem ss (until_rule q (bound_of b) (tree-formula f) (tree-formula g))) (until_parts q f b g)
-      (until_is q (bound_of b) (formula-is f) (limit_is b) (formula-is g))
+  item_is : (i : Item) → IsItem (spell_item i []) (tree_item i)
+  item_is one = grammar.one_sign
+  item_is (letter k) = grammar.letter_sign
+  item_is (not i) = grammar.bang (item_is i)
+  item_is (round f) =
+      subst (λ ss. IsItem (Open ∷ ss) (tree_formula f)) (sym (formula_app f [] (Close ∷ [])))
+      (grammar.round (formula_is f))
+  item_is (until q f b g) =
+      subst (λ ss. IsItem ss (until_rule q (bound_of b) (tree_formula f) (tree_formula g))) (until_parts q f b g)
+      (until_is q (bound_of b) (formula_is f) (limit_is b) (formula_is g))

@@ -11,10 +11,10 @@ use Rattle.rules.proofs.Postorder.{Lettered}
 use Rattle.signs.specs.declared.Sign.{Sign}
 use Rattle.signs.specs.declared.Sign.TheVariants.{Close, CloseSquare}
 use Rattle.signs.proofs.Letters.{Fair}
-use Rattle.reader.specs.Parts.{Limit, plain, at_most, at_least, Formula, Terms, Term, Items, Item, terms, no-term, bar}
+use Rattle.reader.specs.Parts.{Limit, plain, at_most, at_least, Formula, Terms, Term, Items, Item, terms, no_term, bar}
 use Rattle.reader.specs.Parts.{items, no_item, amp, one, letter, not, round, until, spell_limit, bound_of}
-use Rattle.reader.specs.Parts.{spell-formula, spell-terms, spell-term, spell-items, spell-item, tree-formula}
-use Rattle.reader.specs.Parts.{tree-terms, tree-term, tree-items, tree-item}
+use Rattle.reader.specs.Parts.{spell_formula, spell_terms, spell_term, spell_items, spell_item, tree_formula}
+use Rattle.reader.specs.Parts.{tree_terms, tree_term, tree_items, tree_item}
 
 limit_fair : (b : Limit) (ss : List Sign) → All Fair (spell_limit b ss) → All Fair ss
 limit_fair plain ss a = a.1
@@ -28,41 +28,41 @@ until_lettered Every (AtMost c) f g x y = (x, y)
 until_lettered Every (AtLeast c) f g x y = (x, y)
 
 mutual
-  unfolding spell-formula tree-formula
+  unfolding spell_formula tree_formula
 
-  pub formula-lettered : (f : Formula) (ss : List Sign) → All Fair (spell-formula f ss)
-      → Lettered (tree-formula f) × All Fair ss
-  formula-lettered (terms t ts) ss a =
-      let x = term-lettered t (spell-terms ts ss) a in
-      terms-lettered ts (tree-term t) ss x.0 x.1
+  pub formula_lettered : (f : Formula) (ss : List Sign) → All Fair (spell_formula f ss)
+      → Lettered (tree_formula f) × All Fair ss
+  formula_lettered (terms t ts) ss a =
+      let x = term_lettered t (spell_terms ts ss) a in
+      terms_lettered ts (tree_term t) ss x.0 x.1
 
-  terms-lettered : (ts : Terms) (f : Rule) (ss : List Sign) → Lettered f → All Fair (spell-terms ts ss)
-      → Lettered (tree-terms ts f) × All Fair ss
-  terms-lettered no-term f ss l a = (l, a)
-  terms-lettered (bar t ts) f ss l a =
-      let x = term-lettered t (spell-terms ts ss) a.1 in
-      terms-lettered ts _ ss (l, x.0) x.1
+  terms_lettered : (ts : Terms) (f : Rule) (ss : List Sign) → Lettered f → All Fair (spell_terms ts ss)
+      → Lettered (tree_terms ts f) × All Fair ss
+  terms_lettered no_term f ss l a = (l, a)
+  terms_lettered (bar t ts) f ss l a =
+      let x = term_lettered t (spell_terms ts ss) a.1 in
+      terms_lettered ts _ ss (l, x.0) x.1
 
-  term-lettered : (t : Term) (ss : List Sign) → All Fair (spell-term t ss) → Lettered (tree-term t) × All Fair ss
-  term-lettered (items i is) ss a =
-      let x = item-lettered i (spell-items is ss) a in
-      items-lettered is (tree-item i) ss x.0 x.1
+  term_lettered : (t : Term) (ss : List Sign) → All Fair (spell_term t ss) → Lettered (tree_term t) × All Fair ss
+  term_lettered (items i is) ss a =
+      let x = item_lettered i (spell_items is ss) a in
+      items_lettered is (tree_item i) ss x.0 x.1
 
-  items-lettered : (is : Items) (f : Rule) (ss : List Sign) → Lettered f → All Fair (spell-items is ss)
-      → Lettered (tree-items is f) × All Fair ss
-  items-lettered no_item f ss l a = (l, a)
-  items-lettered (amp i is) f ss l a =
-      let x = item-lettered i (spell-items is ss) a.1 in
-      items-lettered is _ ss (l, x.0) x.1
+  items_lettered : (is : Items) (f : Rule) (ss : List Sign) → Lettered f → All Fair (spell_items is ss)
+      → Lettered (tree_items is f) × All Fair ss
+  items_lettered no_item f ss l a = (l, a)
+  items_lettered (amp i is) f ss l a =
+      let x = item_lettered i (spell_items is ss) a.1 in
+      items_lettered is _ ss (l, x.0) x.1
 
-  item-lettered : (i : Item) (ss : List Sign) → All Fair (spell-item i ss) → Lettered (tree-item i) × All Fair ss
-  item-lettered one ss a = (tt, a.1)
-  item-lettered (letter k) ss a = (a.0, a.1)
-  item-lettered (not i) ss a = item-lettered i ss a.1
-  item-lettered (round f) ss a =
-      let x = formula-lettered f (Close ∷ ss) a.1 in
+  item_lettered : (i : Item) (ss : List Sign) → All Fair (spell_item i ss) → Lettered (tree_item i) × All Fair ss
+  item_lettered one ss a = (tt, a.1)
+  item_lettered (letter k) ss a = (a.0, a.1)
+  item_lettered (not i) ss a = item_lettered i ss a.1
+  item_lettered (round f) ss a =
+      let x = formula_lettered f (Close ∷ ss) a.1 in
       (x.0, x.1.1)
-  item-lettered (until q f b g) ss a =
-      let x = formula-lettered f (spell_limit b (spell-formula g (CloseSquare ∷ ss))) a.1.1 in
-      let y = formula-lettered g (CloseSquare ∷ ss) (limit_fair b _ x.1) in
+  item_lettered (until q f b g) ss a =
+      let x = formula_lettered f (spell_limit b (spell_formula g (CloseSquare ∷ ss))) a.1.1 in
+      let y = formula_lettered g (CloseSquare ∷ ss) (limit_fair b _ x.1) in
       (until_lettered q (bound_of b) _ _ x.0 y.0, y.1.1)

@@ -12,9 +12,9 @@ use Rattle.signs.specs.Writing.{Good}
 use Rattle.signs.proofs.Writing.{signs_right}
 use Rattle.reader.specs.Grammar.{IsBound, IsRule, IsTerm, IsItem, until_signs, Reading}
 use Rattle.reader.specs.Grammar as grammar
-use Rattle.reader.specs.Parts.{Formula, spell-formula, tree-formula}
-use Rattle.reader.proofs.Grammar.{rule-parted, formula-is}
-use Rattle.reader.proofs.Unique.{formula-same}
+use Rattle.reader.specs.Parts.{Formula, spell_formula, tree_formula}
+use Rattle.reader.proofs.Grammar.{rule_parted, formula_is}
+use Rattle.reader.proofs.Unique.{formula_same}
 
 good_bound : {ss : List Sign} {b : Bound} → IsBound ss b → All Good ss
 good_bound grammar.plain = (λ e. let z : ◌≡◌ {A = ℕ} 0 1 = cc in omega arith, tt)
@@ -28,45 +28,45 @@ good_until : (q : Quantifier) (ss bs us : List Sign) → All Good ss → All Goo
 good_until q ss bs us x y z =
     let close : Good CloseSquare = λ e. let n : ◌≡◌ {A = ℕ} 0 1 = cc in omega arith in
     let first : Good (Each q) = λ e. let n : ◌≡◌ {A = ℕ} 0 1 = cc in omega arith in
-    let open-square : Good OpenSquare = λ e. let n : ◌≡◌ {A = ℕ} 0 1 = cc in omega arith in
-    (first, (open-square, All-append Good ss _ x (All-append Good bs _ y (All-append Good us _ z (close, tt)))))
+    let open_square : Good OpenSquare = λ e. let n : ◌≡◌ {A = ℕ} 0 1 = cc in omega arith in
+    (first, (open_square, All-append Good ss _ x (All-append Good bs _ y (All-append Good us _ z (close, tt)))))
 
 -- the grammar takes no bad sign
 mutual
-  good-rule : {ss : List Sign} {f : Rule} → IsRule ss f → All Good ss
-  good-rule (grammar.term t) = good-term t
-  good-rule (grammar.bar r t) =
-      All-append Good _ _ (good-rule r) (λ e. let z : ◌≡◌ {A = ℕ} 0 1 = cc in omega arith, good-term t)
+  good_rule : {ss : List Sign} {f : Rule} → IsRule ss f → All Good ss
+  good_rule (grammar.term t) = good_term t
+  good_rule (grammar.bar r t) =
+      All-append Good _ _ (good_rule r) (λ e. let z : ◌≡◌ {A = ℕ} 0 1 = cc in omega arith, good_term t)
 
-  good-term : {ss : List Sign} {f : Rule} → IsTerm ss f → All Good ss
-  good-term (grammar.item i) = good-item i
-  good-term (grammar.amp t i) =
-      All-append Good _ _ (good-term t) (λ e. let z : ◌≡◌ {A = ℕ} 0 1 = cc in omega arith, good-item i)
+  good_term : {ss : List Sign} {f : Rule} → IsTerm ss f → All Good ss
+  good_term (grammar.item i) = good_item i
+  good_term (grammar.amp t i) =
+      All-append Good _ _ (good_term t) (λ e. let z : ◌≡◌ {A = ℕ} 0 1 = cc in omega arith, good_item i)
 
-  good-item : {ss : List Sign} {f : Rule} → IsItem ss f → All Good ss
-  good-item grammar.one_sign = (λ e. let z : ◌≡◌ {A = ℕ} 0 1 = cc in omega arith, tt)
-  good-item grammar.letter-sign = (λ e. let z : ◌≡◌ {A = ℕ} 0 1 = cc in omega arith, tt)
-  good-item (grammar.bang i) = (λ e. let z : ◌≡◌ {A = ℕ} 0 1 = cc in omega arith, good-item i)
-  good-item (grammar.round r) =
+  good_item : {ss : List Sign} {f : Rule} → IsItem ss f → All Good ss
+  good_item grammar.one_sign = (λ e. let z : ◌≡◌ {A = ℕ} 0 1 = cc in omega arith, tt)
+  good_item grammar.letter_sign = (λ e. let z : ◌≡◌ {A = ℕ} 0 1 = cc in omega arith, tt)
+  good_item (grammar.bang i) = (λ e. let z : ◌≡◌ {A = ℕ} 0 1 = cc in omega arith, good_item i)
+  good_item (grammar.round r) =
       let close : Good Close = λ e. let z : ◌≡◌ {A = ℕ} 0 1 = cc in omega arith in
-      (λ e. let z : ◌≡◌ {A = ℕ} 0 1 = cc in omega arith, All-append Good _ _ (good-rule r) (close, tt))
-  good-item (grammar.some l b r) = good_until _ _ _ _ (good-rule l) (good_bound b) (good-rule r)
-  good-item (grammar.each l b r) = good_until _ _ _ _ (good-rule l) (good_bound b) (good-rule r)
+      (λ e. let z : ◌≡◌ {A = ℕ} 0 1 = cc in omega arith, All-append Good _ _ (good_rule r) (close, tt))
+  good_item (grammar.some l b r) = good_until _ _ _ _ (good_rule l) (good_bound b) (good_rule r)
+  good_item (grammar.each l b r) = good_until _ _ _ _ (good_rule l) (good_bound b) (good_rule r)
 
-pub reading_from : (text : List ℕ) (p : Formula) → signs text ≡ spell-formula p [] → Reading text (tree-formula p)
+pub reading_from : (text : List ℕ) (p : Formula) → signs text ≡ spell_formula p [] → Reading text (tree_formula p)
 reading_from text p e =
-    let r = formula-is p in
-    let w = (signs_right text (spell-formula p [])).1 (e, good-rule r) in
-    record { signs = spell-formula p []; written = w; grammar = r }
+    let r = formula_is p in
+    let w = (signs_right text (spell_formula p [])).1 (e, good_rule r) in
+    record { signs = spell_formula p []; written = w; grammar = r }
 
 pub reading_to : {text : List ℕ} {f : Rule} → Reading text f
-    → (p : Formula) × (signs text ≡ spell-formula p []) × (f ≡ tree-formula p)
+    → (p : Formula) × (signs text ≡ spell_formula p []) × (f ≡ tree_formula p)
 reading_to {text} r =
-    let h = rule-parted r.grammar in
+    let h = rule_parted r.grammar in
     (h.part, ((signs_right text r.signs).0 r.written).0 ∙ sym (append-nil r.signs) ∙ h.spells [], h.grows)
 
 pub one_reading_lem : (text : List ℕ) (f g : Rule) → Reading text f → Reading text g → f ≡ g
 one_reading_lem text f g r s =
     let x = reading_to r in
     let y = reading_to s in
-    x.2 ∙ ap tree-formula (formula-same x.0 y.0 [] [] (sym x.1 ∙ y.1) (tt, tt) (tt, tt)).0 ∙ sym y.2
+    x.2 ∙ ap tree_formula (formula_same x.0 y.0 [] [] (sym x.1 ∙ y.1) (tt, tt) (tt, tt)).0 ∙ sym y.2

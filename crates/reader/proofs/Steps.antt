@@ -21,13 +21,13 @@ use Rattle.signs.proofs.Told.{exactly}
 use Rattle.reader.specs.declared.draft.Draft.{Draft}
 use Rattle.reader.specs.Drafts.{Drawn, Pushed, PushedUntil}
 use Rattle.reader.specs.Parts.{Limit, plain, at_most, at_least, Formula, Terms, Term, Items, Item, Body, body, terms}
-use Rattle.reader.specs.Parts.{no-term, bar, items, no_item, amp, one, letter, not, round, until, spell_limit, bound_of}
-use Rattle.reader.specs.Parts.{spell-formula, spell-terms, spell-term, spell-items, spell-item, spell_body}
-use Rattle.reader.specs.Parts.{tree-formula, tree-terms, tree-term, tree-items, tree-item, tree_body}
+use Rattle.reader.specs.Parts.{no_term, bar, items, no_item, amp, one, letter, not, round, until, spell_limit, bound_of}
+use Rattle.reader.specs.Parts.{spell_formula, spell_terms, spell_term, spell_items, spell_item, spell_body}
+use Rattle.reader.specs.Parts.{tree_formula, tree_terms, tree_term, tree_items, tree_item, tree_body}
 use Rattle.reader.specs.Reads.{ReadsItem, ReadsBody, Without, Anything, NoAmp, NoJoint, Took, Lacks, TookLimit}
 use Rattle.reader.proofs.Drafts.{push_one, push_two, push_until, push_new}
-use Rattle.reader.proofs.Unique.{barred, limit_free, limit_same, terms_free, close_free, square_free, formula-same}
-use Rattle.reader.proofs.Unique.{term-same, item-same}
+use Rattle.reader.proofs.Unique.{barred, limit_free, limit_same, terms_free, close_free, square_free, formula_same}
+use Rattle.reader.proofs.Unique.{term_same, item_same}
 
 -- parts of the grammar that go on from one text to what is left of it, and join their lines to those of f
 pub record Grew {F : Type 0} (spell : F → List Sign → List Sign) (tree : F → Rule → Rule) (Stop : List Sign → Type 0)
@@ -39,34 +39,34 @@ pub record Grew {F : Type 0} (spell : F → List Sign → List Sign) (tree : F �
   pub shorter : length rest ≤ length text
 
 abbrev pub TookItem : List ℕ → List ℕ → Draft → Draft → Type 0
-TookItem text rest d e = Took spell-item tree-item Anything text rest d e
+TookItem text rest d e = Took spell_item tree_item Anything text rest d e
 
 abbrev pub TookTerm : List ℕ → List ℕ → Draft → Draft → Type 0
-TookTerm text rest d e = Took spell-term tree-term NoAmp text rest d e
+TookTerm text rest d e = Took spell_term tree_term NoAmp text rest d e
 
 abbrev pub TookRule : List ℕ → List ℕ → Draft → Draft → Type 0
-TookRule text rest d e = Took spell-formula tree-formula NoJoint text rest d e
+TookRule text rest d e = Took spell_formula tree_formula NoJoint text rest d e
 
 abbrev pub TookBody : Quantifier → List ℕ → List ℕ → Draft → Draft → Type 0
 TookBody q text rest d e = Took spell_body (tree_body q) Anything text rest d e
 
 abbrev pub LacksItem : List ℕ → Type 0
-LacksItem text = Lacks spell-item Anything text
+LacksItem text = Lacks spell_item Anything text
 
 abbrev pub LacksTerm : List ℕ → Type 0
-LacksTerm text = Lacks spell-term NoAmp text
+LacksTerm text = Lacks spell_term NoAmp text
 
 abbrev pub LacksRule : List ℕ → Type 0
-LacksRule text = Lacks spell-formula NoJoint text
+LacksRule text = Lacks spell_formula NoJoint text
 
 abbrev pub LacksBody : List ℕ → Type 0
 LacksBody text = Lacks spell_body Anything text
 
 abbrev pub GrewItems : List ℕ → List ℕ → Draft → Draft → Type 0
-GrewItems text rest d e = Grew spell-items tree-items Anything text rest d e
+GrewItems text rest d e = Grew spell_items tree_items Anything text rest d e
 
 abbrev pub GrewTerms : List ℕ → List ℕ → Draft → Draft → Type 0
-GrewTerms text rest d e = Grew spell-terms tree-terms NoAmp text rest d e
+GrewTerms text rest d e = Grew spell_terms tree_terms NoAmp text rest d e
 
 pub without : (s : Sign) (us : List Sign) → ((ss : List Sign) → us ≡ s ∷ ss → ⊥) → Without s us
 without s [] n = tt
@@ -88,65 +88,65 @@ snoc_item no_item j = amp j no_item
 snoc_item (amp i is) j = amp i (snoc_item is j)
 
 pub spell_snoc_item : (is : Items) (j : Item) (ss : List Sign)
-    → spell-items (snoc_item is j) ss ≡ spell-items is (Amp ∷ spell-item j ss)
-unfolding spell-formula snoc_item
+    → spell_items (snoc_item is j) ss ≡ spell_items is (Amp ∷ spell_item j ss)
+unfolding spell_formula snoc_item
 spell_snoc_item no_item j ss = refl
-spell_snoc_item (amp i is) j ss = ap (λ us. Amp ∷ spell-item i us) (spell_snoc_item is j ss)
+spell_snoc_item (amp i is) j ss = ap (λ us. Amp ∷ spell_item i us) (spell_snoc_item is j ss)
 
 pub tree_snoc_item : (is : Items) (j : Item) (f : Rule)
-    → tree-items (snoc_item is j) f ≡ tree.both (tree-items is f) (tree-item j)
-unfolding tree-formula snoc_item
+    → tree_items (snoc_item is j) f ≡ tree.both (tree_items is f) (tree_item j)
+unfolding tree_formula snoc_item
 tree_snoc_item no_item j f = refl
-tree_snoc_item (amp i is) j f = tree_snoc_item is j (tree.both f (tree-item i))
+tree_snoc_item (amp i is) j f = tree_snoc_item is j (tree.both f (tree_item i))
 
 -- where items are followed by & and another reading goes further, an item follows
-items_on : (is js : Items) (vs ss : List Sign) → spell-items is (Amp ∷ vs) ≡ spell-items js ss → NoAmp ss
-    → (j : Item) × (us : List Sign) × (vs ≡ spell-item j us)
-unfolding spell-formula
+items_on : (is js : Items) (vs ss : List Sign) → spell_items is (Amp ∷ vs) ≡ spell_items js ss → NoAmp ss
+    → (j : Item) × (us : List Sign) × (vs ≡ spell_item j us)
+unfolding spell_formula
 items_on no_item no_item vs ss e n = barred Amp ss vs (sym e) n
-items_on no_item (amp j js) vs ss e n = (j, spell-items js ss, tail_same _ _ e)
+items_on no_item (amp j js) vs ss e n = (j, spell_items js ss, tail_same _ _ e)
 items_on (amp i is) no_item vs ss e n = barred Amp ss _ (sym e) n
-items_on (amp i is) (amp j js) vs ss e n = items_on is js vs ss (item-same i j _ _ (tail_same _ _ e)).1 n
+items_on (amp i is) (amp j js) vs ss e n = items_on is js vs ss (item_same i j _ _ (tail_same _ _ e)).1 n
 
 -- terms
 
 pub snoc_term : Terms → Term → Terms
-snoc_term no-term u = bar u no-term
+snoc_term no_term u = bar u no_term
 snoc_term (bar t ts) u = bar t (snoc_term ts u)
 
 pub spell_snoc_term : (ts : Terms) (u : Term) (ss : List Sign)
-    → spell-terms (snoc_term ts u) ss ≡ spell-terms ts (Bar ∷ spell-term u ss)
-unfolding spell-formula snoc_term
-spell_snoc_term no-term u ss = refl
-spell_snoc_term (bar t ts) u ss = ap (λ us. Bar ∷ spell-term t us) (spell_snoc_term ts u ss)
+    → spell_terms (snoc_term ts u) ss ≡ spell_terms ts (Bar ∷ spell_term u ss)
+unfolding spell_formula snoc_term
+spell_snoc_term no_term u ss = refl
+spell_snoc_term (bar t ts) u ss = ap (λ us. Bar ∷ spell_term t us) (spell_snoc_term ts u ss)
 
 pub tree_snoc_term : (ts : Terms) (u : Term) (f : Rule)
-    → tree-terms (snoc_term ts u) f ≡ tree.either (tree-terms ts f) (tree-term u)
-unfolding tree-formula snoc_term
-tree_snoc_term no-term u f = refl
-tree_snoc_term (bar t ts) u f = tree_snoc_term ts u (tree.either f (tree-term t))
+    → tree_terms (snoc_term ts u) f ≡ tree.either (tree_terms ts f) (tree_term u)
+unfolding tree_formula snoc_term
+tree_snoc_term no_term u f = refl
+tree_snoc_term (bar t ts) u f = tree_snoc_term ts u (tree.either f (tree_term t))
 
 bar_free : (ss : List Sign) → NoAmp (Bar ∷ ss)
 bar_free ss = λ e. let z : ◌≡◌ {A = ℕ} 0 1 = cc in omega arith
 
-terms_on : (ts us : Terms) (vs ss : List Sign) → spell-terms ts (Bar ∷ vs) ≡ spell-terms us ss → NoJoint ss
-    → (u : Term) × (xs : List Sign) × NoAmp xs × (vs ≡ spell-term u xs)
-unfolding spell-formula
-terms_on no-term no-term vs ss e n = barred Bar ss vs (sym e) n.1
-terms_on no-term (bar u us) vs ss e n = (u, spell-terms us ss, terms_free us ss n.0, tail_same _ _ e)
-terms_on (bar t ts) no-term vs ss e n = barred Bar ss _ (sym e) n.1
+terms_on : (ts us : Terms) (vs ss : List Sign) → spell_terms ts (Bar ∷ vs) ≡ spell_terms us ss → NoJoint ss
+    → (u : Term) × (xs : List Sign) × NoAmp xs × (vs ≡ spell_term u xs)
+unfolding spell_formula
+terms_on no_term no_term vs ss e n = barred Bar ss vs (sym e) n.1
+terms_on no_term (bar u us) vs ss e n = (u, spell_terms us ss, terms_free us ss n.0, tail_same _ _ e)
+terms_on (bar t ts) no_term vs ss e n = barred Bar ss _ (sym e) n.1
 terms_on (bar t ts) (bar u us) vs ss e n =
-    let a = term-same t u _ _ (tail_same _ _ e) (terms_free ts _ (bar_free vs)) (terms_free us _ n.0) in
+    let a = term_same t u _ _ (tail_same _ _ e) (terms_free ts _ (bar_free vs)) (terms_free us _ n.0) in
     terms_on ts us vs ss a.1 n
 
 -- the loop of a term
 
 pub term_lacks : (text : List ℕ) → LacksItem text → LacksTerm text
-unfolding spell-formula
-term_lacks text l (items i is) ss e n = l i (spell-items is ss) e tt
+unfolding spell_formula
+term_lacks text l (items i is) ss e n = l i (spell_items is ss) e tt
 
 pub term_starts : {text rest : List ℕ} {d e : Draft} → TookItem text rest d e → GrewItems rest rest e e
-unfolding spell-formula tree-formula
+unfolding spell_formula tree_formula
 term_starts h = record { parts = no_item; splits = refl; adds = λ f ls x. x; stops = tt; shorter = omega arith }
 
 pub term_goes_on : {r0 rest next after : List ℕ} {d0 d1 d2 d3 : Draft} (i : ℕ) → GrewItems r0 rest d0 d1
@@ -156,13 +156,13 @@ term_goes_on {next = next} {d3 = d3} i g s h p x =
     record {
       parts = snoc_item g.parts h.part;
       splits =
-          g.splits ∙ ap (spell-items g.parts) (s.splits ∙ ap (λ us. Amp ∷ us) h.splits)
+          g.splits ∙ ap (spell_items g.parts) (s.splits ∙ ap (λ us. Amp ∷ us) h.splits)
           ∙ sym (spell_snoc_item g.parts h.part (signs next));
       adds =
           λ f ls w.
           let u = g.adds f ls w in
           subst (λ z. Drawn d3 (put z ls)) (sym (tree_snoc_item g.parts h.part f))
-          (push_two line.And line.And i _ _ _ u (h.adds _ u) (not_shorter (tree-item h.part) _) p x refl
+          (push_two line.And line.And i _ _ _ u (h.adds _ u) (not_shorter (tree_item h.part) _) p x refl
           (λ a b. refl) (λ a b z. refl));
       stops = tt;
       shorter = omega (arith, g.shorter, s.shorter, h.shorter);
@@ -170,20 +170,20 @@ term_goes_on {next = next} {d3 = d3} i g s h p x =
 
 pub term_lacks_on : {text r0 rest after : List ℕ} {before d0 d1 : Draft} → TookItem text r0 before d0
     → GrewItems r0 rest d0 d1 → Begins rest Amp after → LacksItem after → LacksTerm text
-unfolding spell-formula
+unfolding spell_formula
 term_lacks_on h g s l (items i is) ss e n =
-    let a = item-same h.part i _ _ (sym h.splits ∙ e) in
-    let b = items_on g.parts is _ ss (sym (ap (spell-items g.parts) s.splits) ∙ sym g.splits ∙ a.1) n in
+    let a = item_same h.part i _ _ (sym h.splits ∙ e) in
+    let b = items_on g.parts is _ ss (sym (ap (spell_items g.parts) s.splits) ∙ sym g.splits ∙ a.1) n in
     l b.0 b.1 b.2 tt
 
 pub term_ends : {text r0 rest : List ℕ} {before d0 d1 : Draft} → TookItem text r0 before d0 → GrewItems r0 rest d0 d1
     → ((ss : List Sign) → signs rest ≡ Amp ∷ ss → ⊥) → TookTerm text rest before d1
-unfolding spell-formula tree-formula
+unfolding spell_formula tree_formula
 term_ends h g n =
     record {
       part = items h.part g.parts;
-      splits = h.splits ∙ ap (spell-item h.part) g.splits;
-      adds = λ ls w. g.adds (tree-item h.part) ls (h.adds ls w);
+      splits = h.splits ∙ ap (spell_item h.part) g.splits;
+      adds = λ ls w. g.adds (tree_item h.part) ls (h.adds ls w);
       stops = without Amp _ n;
       shorter = omega (arith, h.shorter, g.shorter);
     }
@@ -191,12 +191,12 @@ term_ends h g n =
 -- the loop of a rule
 
 pub rule_lacks : (text : List ℕ) → LacksTerm text → LacksRule text
-unfolding spell-formula
-rule_lacks text l (terms t ts) ss e n = l t (spell-terms ts ss) e (terms_free ts ss n.0)
+unfolding spell_formula
+rule_lacks text l (terms t ts) ss e n = l t (spell_terms ts ss) e (terms_free ts ss n.0)
 
 pub rule_starts : {text rest : List ℕ} {d e : Draft} → TookTerm text rest d e → GrewTerms rest rest e e
-unfolding spell-formula tree-formula
-rule_starts h = record { parts = no-term; splits = refl; adds = λ f ls x. x; stops = h.stops; shorter = omega arith }
+unfolding spell_formula tree_formula
+rule_starts h = record { parts = no_term; splits = refl; adds = λ f ls x. x; stops = h.stops; shorter = omega arith }
 
 pub rule_goes_on : {r0 rest next after : List ℕ} {d0 d1 d2 d3 : Draft} (i : ℕ) → GrewTerms r0 rest d0 d1
     → Begins rest Bar after → TookTerm after next d1 d2 → Pushed d2 (line.Or i (d2.count - 1)) d3 → i ≡ d1.count - 1
@@ -205,13 +205,13 @@ rule_goes_on {next = next} {d3 = d3} i g s h p x =
     record {
       parts = snoc_term g.parts h.part;
       splits =
-          g.splits ∙ ap (spell-terms g.parts) (s.splits ∙ ap (λ us. Bar ∷ us) h.splits)
+          g.splits ∙ ap (spell_terms g.parts) (s.splits ∙ ap (λ us. Bar ∷ us) h.splits)
           ∙ sym (spell_snoc_term g.parts h.part (signs next));
       adds =
           λ f ls w.
           let u = g.adds f ls w in
           subst (λ z. Drawn d3 (put z ls)) (sym (tree_snoc_term g.parts h.part f))
-          (push_two line.Or line.Or i _ _ _ u (h.adds _ u) (not_shorter (tree-term h.part) _) p x refl
+          (push_two line.Or line.Or i _ _ _ u (h.adds _ u) (not_shorter (tree_term h.part) _) p x refl
           (λ a b. refl) (λ a b z. refl));
       stops = h.stops;
       shorter = omega (arith, g.shorter, s.shorter, h.shorter);
@@ -219,20 +219,20 @@ rule_goes_on {next = next} {d3 = d3} i g s h p x =
 
 pub rule_lacks_on : {text r0 rest after : List ℕ} {before d0 d1 : Draft} → TookTerm text r0 before d0
     → GrewTerms r0 rest d0 d1 → Begins rest Bar after → LacksTerm after → LacksRule text
-unfolding spell-formula
+unfolding spell_formula
 rule_lacks_on h g s l (terms t ts) ss e n =
-    let a = term-same h.part t _ _ (sym h.splits ∙ e) h.stops (terms_free ts ss n.0) in
-    let b = terms_on g.parts ts _ ss (sym (ap (spell-terms g.parts) s.splits) ∙ sym g.splits ∙ a.1) n in
+    let a = term_same h.part t _ _ (sym h.splits ∙ e) h.stops (terms_free ts ss n.0) in
+    let b = terms_on g.parts ts _ ss (sym (ap (spell_terms g.parts) s.splits) ∙ sym g.splits ∙ a.1) n in
     l b.0 b.1 b.3 b.2
 
 pub rule_ends : {text r0 rest : List ℕ} {before d0 d1 : Draft} → TookTerm text r0 before d0 → GrewTerms r0 rest d0 d1
     → ((ss : List Sign) → signs rest ≡ Bar ∷ ss → ⊥) → TookRule text rest before d1
-unfolding spell-formula tree-formula
+unfolding spell_formula tree_formula
 rule_ends h g n =
     record {
       part = terms h.part g.parts;
-      splits = h.splits ∙ ap (spell-term h.part) g.splits;
-      adds = λ ls w. g.adds (tree-term h.part) ls (h.adds ls w);
+      splits = h.splits ∙ ap (spell_term h.part) g.splits;
+      adds = λ ls w. g.adds (tree_term h.part) ls (h.adds ls w);
       stops = (g.stops, without Bar _ n);
       shorter = omega (arith, h.shorter, g.shorter);
     }
@@ -251,49 +251,49 @@ unfolding spell_body
 body_lacks_open text n (body f b g) ss e a = n _ e
 
 module _ {text r1 : List ℕ} (o : Begins text OpenSquare r1) where
-  pub body-lacks-left : LacksRule r1 → LacksBody text
+  pub body_lacks_left : LacksRule r1 → LacksBody text
   unfolding spell_body
-  body-lacks-left l (body f b g) ss e a = l f _ (tail_same _ _ (sym o.splits ∙ e)) (limit_free b _)
+  body_lacks_left l (body f b g) ss e a = l f _ (tail_same _ _ (sym o.splits ∙ e)) (limit_free b _)
 
   module _ {r2 : List ℕ} {d0 d1 : Draft} (h : TookRule r1 r2 d0 d1) where
-    left-same : (f : Formula) (b : Limit) (g : Formula) (ss : List Sign) → signs text ≡ spell_body (body f b g) ss
-        → signs r2 ≡ spell_limit b (spell-formula g (CloseSquare ∷ ss))
+    left_same : (f : Formula) (b : Limit) (g : Formula) (ss : List Sign) → signs text ≡ spell_body (body f b g) ss
+        → signs r2 ≡ spell_limit b (spell_formula g (CloseSquare ∷ ss))
     unfolding spell_body
-    left-same f b g ss e =
-        (formula-same h.part f _ _ (sym h.splits ∙ tail_same _ _ (sym o.splits ∙ e)) h.stops
+    left_same f b g ss e =
+        (formula_same h.part f _ _ (sym h.splits ∙ tail_same _ _ (sym o.splits ∙ e)) h.stops
         (limit_free b _)).1
 
-    pub body-lacks-limit : ((b : Limit) (ss : List Sign) → signs r2 ≡ spell_limit b ss → ⊥) → LacksBody text
-    body-lacks-limit l (body f b g) ss e a = l b _ (left-same f b g ss e)
+    pub body_lacks_limit : ((b : Limit) (ss : List Sign) → signs r2 ≡ spell_limit b ss → ⊥) → LacksBody text
+    body_lacks_limit l (body f b g) ss e a = l b _ (left_same f b g ss e)
 
     module _ {r3 : List ℕ} {c : Bound} (m : TookLimit r2 c r3) where
-      limit-goes : (f : Formula) (b : Limit) (g : Formula) (ss : List Sign) → signs text ≡ spell_body (body f b g) ss
-          → signs r3 ≡ spell-formula g (CloseSquare ∷ ss)
-      limit-goes f b g ss e = (limit_same m.limit b _ _ (sym m.splits ∙ left-same f b g ss e)).1
+      limit_goes : (f : Formula) (b : Limit) (g : Formula) (ss : List Sign) → signs text ≡ spell_body (body f b g) ss
+          → signs r3 ≡ spell_formula g (CloseSquare ∷ ss)
+      limit_goes f b g ss e = (limit_same m.limit b _ _ (sym m.splits ∙ left_same f b g ss e)).1
 
-      pub body-lacks-right : LacksRule r3 → LacksBody text
-      body-lacks-right l (body f b g) ss e a = l g _ (limit-goes f b g ss e) (square_free ss)
+      pub body_lacks_right : LacksRule r3 → LacksBody text
+      body_lacks_right l (body f b g) ss e a = l g _ (limit_goes f b g ss e) (square_free ss)
 
       module _ {r4 : List ℕ} {d2 : Draft} (k : TookRule r3 r4 d1 d2) where
-        pub body-lacks-close : ((ss : List Sign) → signs r4 ≡ CloseSquare ∷ ss → ⊥) → LacksBody text
-        body-lacks-close n (body f b g) ss e a =
-            n ss (formula-same k.part g _ _ (sym k.splits ∙ limit-goes f b g ss e) k.stops (square_free ss)).1
+        pub body_lacks_close : ((ss : List Sign) → signs r4 ≡ CloseSquare ∷ ss → ⊥) → LacksBody text
+        body_lacks_close n (body f b g) ss e a =
+            n ss (formula_same k.part g _ _ (sym k.splits ∙ limit_goes f b g ss e) k.stops (square_free ss)).1
 
-        pub body-ends : {r5 : List ℕ} {d3 : Draft} (q : Quantifier) (i : ℕ) → Begins r4 CloseSquare r5
+        pub body_ends : {r5 : List ℕ} {d3 : Draft} (q : Quantifier) (i : ℕ) → Begins r4 CloseSquare r5
             → PushedUntil d2 q i c d3 → i ≡ d1.count - 1 → TookBody q text r5 d0 d3
         unfolding spell_body tree_body
-        body-ends {r5} {d3} q i z p x =
+        body_ends {r5} {d3} q i z p x =
             record {
               part = body h.part m.limit k.part;
               splits =
-                  let right = k.splits ∙ ap (spell-formula k.part) z.splits in
+                  let right = k.splits ∙ ap (spell_formula k.part) z.splits in
                   let bound = m.splits ∙ ap (spell_limit m.limit) right in
-                  o.splits ∙ ap (λ us. OpenSquare ∷ us) (h.splits ∙ ap (spell-formula h.part) bound);
+                  o.splits ∙ ap (λ us. OpenSquare ∷ us) (h.splits ∙ ap (spell_formula h.part) bound);
               adds =
                   λ ls w.
                   let u = h.adds ls w in
-                  let f = tree-formula h.part in
-                  let g = tree-formula k.part in
+                  let f = tree_formula h.part in
+                  let g = tree_formula k.part in
                   subst (Drawn d3) (sym (put_until q (bound_of m.limit) f g ls))
                   (push_until q c (bound_of m.limit) i _ _ u (k.adds _ u) (not_shorter g _) p m.bound x);
               stops = tt;
@@ -303,7 +303,7 @@ module _ {text r1 : List ℕ} (o : Begins text OpenSquare r1) where
 -- an item
 
 pub item_lacks_none : (text : List ℕ) → signs text ≡ [] → LacksItem text
-unfolding spell-formula spell_body
+unfolding spell_formula spell_body
 item_lacks_none text n one ss e a = let z : ◌≡◌ {A = ℕ} 0 1 = cc in omega arith
 item_lacks_none text n (letter k) ss e a = let z : ◌≡◌ {A = ℕ} 0 1 = cc in omega arith
 item_lacks_none text n (not i) ss e a = let z : ◌≡◌ {A = ℕ} 0 1 = cc in omega arith
@@ -311,7 +311,7 @@ item_lacks_none text n (round f) ss e a = let z : ◌≡◌ {A = ℕ} 0 1 = cc i
 item_lacks_none text n (until q f b g) ss e a = let z : ◌≡◌ {A = ℕ} 0 1 = cc in omega arith
 
 pub item_lacks_number : {text rest : List ℕ} (n : ℕ) → Begins text (Number n) rest → (n ≡ 1 → ⊥) → LacksItem text
-unfolding spell-formula spell_body
+unfolding spell_formula spell_body
 item_lacks_number n s l one ss e a = l (cc (s.splits, e))
 item_lacks_number n s l (letter k) ss e a = let z : ◌≡◌ {A = ℕ} 0 1 = cc in omega arith
 item_lacks_number n s l (not i) ss e a = let z : ◌≡◌ {A = ℕ} 0 1 = cc in omega arith
@@ -319,7 +319,7 @@ item_lacks_number n s l (round f) ss e a = let z : ◌≡◌ {A = ℕ} 0 1 = cc 
 item_lacks_number n s l (until q f b g) ss e a = let z : ◌≡◌ {A = ℕ} 0 1 = cc in omega arith
 
 pub item_lacks_not : {text rest : List ℕ} → Begins text Bang rest → LacksItem rest → LacksItem text
-unfolding spell-formula spell_body
+unfolding spell_formula spell_body
 item_lacks_not s l one ss e a = let z : ◌≡◌ {A = ℕ} 0 1 = cc in omega arith
 item_lacks_not s l (letter k) ss e a = let z : ◌≡◌ {A = ℕ} 0 1 = cc in omega arith
 item_lacks_not s l (not i) ss e a = l i ss (tail_same _ _ (sym s.splits ∙ e)) tt
@@ -327,7 +327,7 @@ item_lacks_not s l (round f) ss e a = let z : ◌≡◌ {A = ℕ} 0 1 = cc in om
 item_lacks_not s l (until q f b g) ss e a = let z : ◌≡◌ {A = ℕ} 0 1 = cc in omega arith
 
 pub item_lacks_round : {text rest : List ℕ} → Begins text Open rest → LacksRule rest → LacksItem text
-unfolding spell-formula spell_body
+unfolding spell_formula spell_body
 item_lacks_round s l one ss e a = let z : ◌≡◌ {A = ℕ} 0 1 = cc in omega arith
 item_lacks_round s l (letter k) ss e a = let z : ◌≡◌ {A = ℕ} 0 1 = cc in omega arith
 item_lacks_round s l (not i) ss e a = let z : ◌≡◌ {A = ℕ} 0 1 = cc in omega arith
@@ -336,18 +336,18 @@ item_lacks_round s l (until q f b g) ss e a = let z : ◌≡◌ {A = ℕ} 0 1 = 
 
 pub item_lacks_close : {text rest r2 : List ℕ} {d e : Draft} → Begins text Open rest → TookRule rest r2 d e
     → ((ss : List Sign) → signs r2 ≡ Close ∷ ss → ⊥) → LacksItem text
-unfolding spell-formula spell_body
+unfolding spell_formula spell_body
 item_lacks_close s h n one ss e a = let z : ◌≡◌ {A = ℕ} 0 1 = cc in omega arith
 item_lacks_close s h n (letter k) ss e a = let z : ◌≡◌ {A = ℕ} 0 1 = cc in omega arith
 item_lacks_close s h n (not i) ss e a = let z : ◌≡◌ {A = ℕ} 0 1 = cc in omega arith
 item_lacks_close s h n (round f) ss e a =
     let rest = sym h.splits ∙ tail_same _ _ (sym s.splits ∙ e) in
-    n ss (formula-same h.part f _ _ rest h.stops (close_free ss)).1
+    n ss (formula_same h.part f _ _ rest h.stops (close_free ss)).1
 item_lacks_close s h n (until q f b g) ss e a = let z : ◌≡◌ {A = ℕ} 0 1 = cc in omega arith
 
 pub item_lacks_body : {text rest : List ℕ} {r : Quantifier} → Begins text (Each r) rest → LacksBody rest
     → LacksItem text
-unfolding spell-formula spell_body
+unfolding spell_formula spell_body
 item_lacks_body s l one ss e a = let z : ◌≡◌ {A = ℕ} 0 1 = cc in omega arith
 item_lacks_body s l (letter k) ss e a = let z : ◌≡◌ {A = ℕ} 0 1 = cc in omega arith
 item_lacks_body s l (not i) ss e a = let z : ◌≡◌ {A = ℕ} 0 1 = cc in omega arith
@@ -357,7 +357,7 @@ item_lacks_body s l (until q f b g) ss e a = l (body f b g) ss (tail_same _ _ (s
 pub item_lacks_other : {text rest : List ℕ} (first : Sign) → Told text first rest → ((n : ℕ) → first ≡ Number n → ⊥)
     → ((k : ℕ) → first ≡ Letter k → ⊥) → (first ≡ Bang → ⊥) → (first ≡ Open → ⊥)
     → ((r : Quantifier) → first ≡ Each r → ⊥) → LacksItem text
-unfolding spell-formula spell_body
+unfolding spell_formula spell_body
 item_lacks_other first (t, h, s) n l x p u one ss e a = n 1 (h ∙ ap told (head_same _ _ (sym s.splits ∙ e)))
 item_lacks_other first (t, h, s) n l x p u (letter k) ss e a = l k (h ∙ ap told (head_same _ _ (sym s.splits ∙ e)))
 item_lacks_other first (t, h, s) n l x p u (not i) ss e a = x (h ∙ ap told (head_same _ _ (sym s.splits ∙ e)))
@@ -367,7 +367,7 @@ item_lacks_other first (t, h, s) n l x p u (until q f b g) ss e a =
 
 pub item_one : {text rest : List ℕ} {d e : Draft} → Begins text (Number 1) rest → Pushed d line.One e
     → TookItem text rest d e
-unfolding spell-formula tree-formula
+unfolding spell_formula tree_formula
 item_one s p =
     record {
       part = one;
@@ -379,7 +379,7 @@ item_one s p =
 
 pub item_letter : {text rest : List ℕ} {d e : Draft} (k : ℕ) → Begins text (Letter k) rest → Pushed d (line.Letter k) e
     → TookItem text rest d e
-unfolding spell-formula tree-formula
+unfolding spell_formula tree_formula
 item_letter k s p =
     record {
       part = letter k;
@@ -391,7 +391,7 @@ item_letter k s p =
 
 pub item_not : {text rest r2 : List ℕ} {d0 d1 d2 : Draft} → Begins text Bang rest → TookItem rest r2 d0 d1
     → Pushed d1 (line.Not (d1.count - 1)) d2 → TookItem text r2 d0 d2
-unfolding spell-formula tree-formula
+unfolding spell_formula tree_formula
 item_not s h p =
     record {
       part = not h.part;
@@ -403,11 +403,11 @@ item_not s h p =
 
 pub item_round : {text rest r2 r3 : List ℕ} {d e : Draft} → Begins text Open rest → TookRule rest r2 d e
     → Begins r2 Close r3 → TookItem text r3 d e
-unfolding spell-formula tree-formula
+unfolding spell_formula tree_formula
 item_round s h z =
     record {
       part = round h.part;
-      splits = s.splits ∙ ap (λ us. Open ∷ us) (h.splits ∙ ap (spell-formula h.part) z.splits);
+      splits = s.splits ∙ ap (λ us. Open ∷ us) (h.splits ∙ ap (spell_formula h.part) z.splits);
       adds = h.adds;
       stops = tt;
       shorter = omega (arith, s.shorter, h.shorter, z.shorter);
@@ -417,11 +417,11 @@ body_in : {text rest : List ℕ} {d e : Draft} (q : Quantifier) (p : Body) (us :
     → signs text ≡ Each q ∷ spell_body p us → us ≡ signs rest
     → ((ls : List Line) → Drawn d ls → Drawn e (put (tree_body q p) ls)) → length rest < length text
     → TookItem text rest d e
-unfolding spell-formula tree-formula spell_body tree_body
+unfolding spell_formula tree_formula spell_body tree_body
 body_in q (body f b g) us e u m lt =
     record {
       part = until q f b g;
-      splits = e ∙ ap (spell-item (until q f b g)) u;
+      splits = e ∙ ap (spell_item (until q f b g)) u;
       adds = m;
       stops = tt;
       shorter = lt;
@@ -471,8 +471,8 @@ limit_least {n = n} s e h =
     }
 
 pub trailing : {text rest r2 : List ℕ} {d e : Draft} {s : Sign} → TookRule text rest d e → Begins rest s r2
-    → (f : Formula) → signs text ≡ spell-formula f [] → ⊥
+    → (f : Formula) → signs text ≡ spell_formula f [] → ⊥
 trailing h z f e =
-    let n = (formula-same h.part f _ _ (sym h.splits ∙ e) h.stops (tt, tt)).1 in
+    let n = (formula_same h.part f _ _ (sym h.splits ∙ e) h.stops (tt, tt)).1 in
     let x : ◌≡◌ {A = ℕ} 0 1 = cc (n, z.splits) in
     omega arith

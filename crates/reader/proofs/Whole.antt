@@ -14,9 +14,9 @@ use Rattle.reader.specs.declared.draft.Draft.{Draft}
 use Rattle.reader.specs.Answer.{longest, Refused, Accepted}
 use Rattle.reader.specs.Reads.{Ends, first_fault}
 use Rattle.reader.specs.Drafts.{Drawn}
-use Rattle.reader.specs.Parts.{spell-formula, tree-formula}
+use Rattle.reader.specs.Parts.{spell_formula, tree_formula}
 use Rattle.reader.specs.Grammar.{Reading}
-use Rattle.reader.proofs.Letters.{formula-lettered}
+use Rattle.reader.proofs.Letters.{formula_lettered}
 use Rattle.reader.proofs.Readings.{reading_from, reading_to}
 use Rattle.reader.proofs.Steps.{TookRule, trailing}
 
@@ -28,12 +28,12 @@ pub record Whole (text : List ℕ) (d : Draft) : Type 0 where
 
 pub whole : {text rest : List ℕ} {d0 d : Draft} → TookRule text rest d0 d → Drawn d0 [] → signs rest ≡ [] → Whole text d
 whole {text} h w n =
-    let e = h.splits ∙ ap (spell-formula h.part) n in
+    let e = h.splits ∙ ap (spell_formula h.part) n in
     record {
-      rule = tree-formula h.part;
+      rule = tree_formula h.part;
       reading = reading_from text h.part e;
       drawn = h.adds [] w;
-      lettered = (formula-lettered h.part [] (subst (All Fair) e (signs_fair text))).0;
+      lettered = (formula_lettered h.part [] (subst (All Fair) e (signs_fair text))).0;
     }
 
 told_large : {text : List ℕ} {d : Draft} (k : Whole text d) → d.large ≡ true → Large (lines_of k.rule)

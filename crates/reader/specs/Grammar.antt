@@ -33,7 +33,7 @@ mutual
   -- and `]`.
   pub data IsItem : List Sign → Rule → Type 0 where
     one_sign : IsItem (Number 1 ∷ []) one
-    letter-sign : {k : ℕ} → IsItem (Letter k ∷ []) (letter k)
+    letter_sign : {k : ℕ} → IsItem (Letter k ∷ []) (letter k)
     bang : {ss : List Sign} {f : Rule} → IsItem ss f → IsItem (Bang ∷ ss) (not f)
     round : {ss : List Sign} {f : Rule} → IsRule ss f → IsItem (Open ∷ (ss ++ (Close ∷ []))) f
     some : {ss bs us : List Sign} {f g : Rule} {b : Bound} → IsRule ss f → IsBound bs b → IsRule us g

@@ -21,7 +21,7 @@ mutual
     terms : Term → Terms → Formula
 
   pub data Terms : Type 0 where
-    no-term : Terms
+    no_term : Terms
     bar : Term → Terms → Terms
 
   -- a term is items joined by &
@@ -51,57 +51,57 @@ bound_of (at_most n) = AtMost n
 bound_of (at_least n) = AtLeast n
 
 unfoldable mutual
-  pub spell-formula : Formula → List Sign → List Sign
-  spell-formula (terms t ts) ss = spell-term t (spell-terms ts ss)
+  pub spell_formula : Formula → List Sign → List Sign
+  spell_formula (terms t ts) ss = spell_term t (spell_terms ts ss)
 
-  pub spell-terms : Terms → List Sign → List Sign
-  spell-terms no-term ss = ss
-  spell-terms (bar t ts) ss = Bar ∷ spell-term t (spell-terms ts ss)
+  pub spell_terms : Terms → List Sign → List Sign
+  spell_terms no_term ss = ss
+  spell_terms (bar t ts) ss = Bar ∷ spell_term t (spell_terms ts ss)
 
-  pub spell-term : Term → List Sign → List Sign
-  spell-term (items i is) ss = spell-item i (spell-items is ss)
+  pub spell_term : Term → List Sign → List Sign
+  spell_term (items i is) ss = spell_item i (spell_items is ss)
 
-  pub spell-items : Items → List Sign → List Sign
-  spell-items no_item ss = ss
-  spell-items (amp i is) ss = Amp ∷ spell-item i (spell-items is ss)
+  pub spell_items : Items → List Sign → List Sign
+  spell_items no_item ss = ss
+  spell_items (amp i is) ss = Amp ∷ spell_item i (spell_items is ss)
 
-  pub spell-item : Item → List Sign → List Sign
-  spell-item one ss = Number 1 ∷ ss
-  spell-item (letter k) ss = Letter k ∷ ss
-  spell-item (not i) ss = Bang ∷ spell-item i ss
-  spell-item (round f) ss = Open ∷ spell-formula f (Close ∷ ss)
-  spell-item (until q f b g) ss =
-      Each q ∷ OpenSquare ∷ spell-formula f (spell_limit b (spell-formula g (CloseSquare ∷ ss)))
+  pub spell_item : Item → List Sign → List Sign
+  spell_item one ss = Number 1 ∷ ss
+  spell_item (letter k) ss = Letter k ∷ ss
+  spell_item (not i) ss = Bang ∷ spell_item i ss
+  spell_item (round f) ss = Open ∷ spell_formula f (Close ∷ ss)
+  spell_item (until q f b g) ss =
+      Each q ∷ OpenSquare ∷ spell_formula f (spell_limit b (spell_formula g (CloseSquare ∷ ss)))
 
 unfoldable mutual
-  pub tree-formula : Formula → Rule
-  tree-formula (terms t ts) = tree-terms ts (tree-term t)
+  pub tree_formula : Formula → Rule
+  tree_formula (terms t ts) = tree_terms ts (tree_term t)
 
   -- | groups to the left: f is what was read, the left part of the next
-  pub tree-terms : Terms → Rule → Rule
-  tree-terms no-term f = f
-  tree-terms (bar t ts) f = tree-terms ts (tree.either f (tree-term t))
+  pub tree_terms : Terms → Rule → Rule
+  tree_terms no_term f = f
+  tree_terms (bar t ts) f = tree_terms ts (tree.either f (tree_term t))
 
-  pub tree-term : Term → Rule
-  tree-term (items i is) = tree-items is (tree-item i)
+  pub tree_term : Term → Rule
+  tree_term (items i is) = tree_items is (tree_item i)
 
-  pub tree-items : Items → Rule → Rule
-  tree-items no_item f = f
-  tree-items (amp i is) f = tree-items is (tree.both f (tree-item i))
+  pub tree_items : Items → Rule → Rule
+  tree_items no_item f = f
+  tree_items (amp i is) f = tree_items is (tree.both f (tree_item i))
 
-  pub tree-item : Item → Rule
-  tree-item one = tree.one
-  tree-item (letter k) = tree.letter k
-  tree-item (not i) = tree.not (tree-item i)
-  tree-item (round f) = tree-formula f
-  tree-item (until q f b g) = until_rule q (bound_of b) (tree-formula f) (tree-formula g)
+  pub tree_item : Item → Rule
+  tree_item one = tree.one
+  tree_item (letter k) = tree.letter k
+  tree_item (not i) = tree.not (tree_item i)
+  tree_item (round f) = tree_formula f
+  tree_item (until q f b g) = until_rule q (bound_of b) (tree_formula f) (tree_formula g)
 
 -- what stands after E or A
 pub data Body : Type 0 where
   body : Formula → Limit → Formula → Body
 
 unfoldable pub spell_body : Body → List Sign → List Sign
-spell_body (body f b g) ss = OpenSquare ∷ spell-formula f (spell_limit b (spell-formula g (CloseSquare ∷ ss)))
+spell_body (body f b g) ss = OpenSquare ∷ spell_formula f (spell_limit b (spell_formula g (CloseSquare ∷ ss)))
 
 unfoldable pub tree_body : Quantifier → Body → Rule
-tree_body q (body f b g) = until_rule q (bound_of b) (tree-formula f) (tree-formula g)
+tree_body q (body f b g) = until_rule q (bound_of b) (tree_formula f) (tree_formula g)

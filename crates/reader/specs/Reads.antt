@@ -16,8 +16,8 @@ use Rattle.reader.specs.declared.ReadFault.{ReadFault}
 use Rattle.reader.specs.declared.ReadFault.TheVariants.{NotARule, NumberTooLarge, TooManyLines}
 use Rattle.reader.specs.declared.draft.Draft.{Draft}
 use Rattle.reader.specs.Drafts.{Drawn}
-use Rattle.reader.specs.Parts.{Limit, spell_limit, bound_of, spell-formula, spell-term, spell-item, spell_body}
-use Rattle.reader.specs.Parts.{tree-formula, tree-term, tree-item, tree_body}
+use Rattle.reader.specs.Parts.{Limit, spell_limit, bound_of, spell_formula, spell_term, spell_item, spell_body}
+use Rattle.reader.specs.Parts.{tree_formula, tree_term, tree_item, tree_body}
 
 -- the signs do not go on with s
 abbrev pub Without : Sign → List Sign → Type 0
@@ -53,13 +53,13 @@ Reads spell tree Stop text before after option.None = Lacks spell Stop text
 
 -- a rule is read up to what is neither | nor &, a term up to what is no &
 abbrev pub ReadsRule : List ℕ → Draft → Draft → Option (Bor (List ℕ)) → Type 0
-ReadsRule text before after r = Reads spell-formula tree-formula NoJoint text before after r
+ReadsRule text before after r = Reads spell_formula tree_formula NoJoint text before after r
 
 abbrev pub ReadsTerm : List ℕ → Draft → Draft → Option (Bor (List ℕ)) → Type 0
-ReadsTerm text before after r = Reads spell-term tree-term NoAmp text before after r
+ReadsTerm text before after r = Reads spell_term tree_term NoAmp text before after r
 
 abbrev pub ReadsItem : List ℕ → Draft → Draft → Option (Bor (List ℕ)) → Type 0
-ReadsItem text before after r = Reads spell-item tree-item Anything text before after r
+ReadsItem text before after r = Reads spell_item tree_item Anything text before after r
 
 -- what stands after E or A
 abbrev pub ReadsBody : Quantifier → List ℕ → Draft → Draft → Option (Bor (List ℕ)) → Type 0

@@ -22,7 +22,7 @@ fn read_bound(text: &[u8]) -> Option<(Bound, &[u8])>
     None
 }
 
-#[cycle(read_item_read_rule_read_term_read_until)]
+#[cycle(grammar)]
 fn read_item<'a>(text: &'a [u8], draft: &mut Draft) -> Option<&'a [u8]>
     ensures { ReadsItem text.now draft.old draft.new result }
 {
@@ -54,7 +54,7 @@ fn read_item<'a>(text: &'a [u8], draft: &mut Draft) -> Option<&'a [u8]>
 }
 
 // What stands after `E` or `A`.
-#[cycle(read_item_read_rule_read_term_read_until)]
+#[cycle(grammar)]
 fn read_until<'a>(text: &'a [u8], quantifier: Quantifier, draft: &mut Draft) -> Option<&'a [u8]>
     ensures { ReadsBody quantifier text.now draft.old draft.new result }
 {
@@ -68,7 +68,7 @@ fn read_until<'a>(text: &'a [u8], quantifier: Quantifier, draft: &mut Draft) -> 
     Some(rest)
 }
 
-#[cycle(read_item_read_rule_read_term_read_until)]
+#[cycle(grammar)]
 fn read_term<'a>(text: &'a [u8], draft: &mut Draft) -> Option<&'a [u8]>
     ensures { ReadsTerm text.now draft.old draft.new result }
 {
@@ -82,7 +82,7 @@ fn read_term<'a>(text: &'a [u8], draft: &mut Draft) -> Option<&'a [u8]>
 }
 
 // Terms joined by `|`, up to what is neither `|` nor `&`.
-#[cycle(read_item_read_rule_read_term_read_until)]
+#[cycle(grammar)]
 pub(crate) fn read_rule<'a>(text: &'a [u8], draft: &mut Draft) -> Option<&'a [u8]>
     ensures { ReadsRule text.now draft.old draft.new result }
 {

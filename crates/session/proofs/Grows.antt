@@ -11,19 +11,19 @@ use Rattle.session.specs.declared.calls.Answer.{Answer}
 use Rattle.session.specs.Reckoned.{after, reckoned}
 use Rattle.session.specs.Answers.{Answers}
 use Rattle.session.specs.Sessions.{call_at, answer_at, AnsweredAll, Main}
-use Rattle.session.proofs.Mains.{main-theorem}
+use Rattle.session.proofs.Mains.{main_theorem}
 
 module _ (caps : Caps) where
-  reckoned-before : (p : Prog) (cs : List Call) (c : Call) (n : ℕ) → n ≤ length cs
+  reckoned_before : (p : Prog) (cs : List Call) (c : Call) (n : ℕ) → n ≤ length cs
       → reckoned caps p (cs ++ (c ∷ [])) n ≡ reckoned caps p cs n
-  reckoned-before p cs c zero l = refl
-  reckoned-before p [] c (suc n) l = absurd (omega arith)
-  reckoned-before p (x ∷ cs) c (suc n) l = reckoned-before (after caps p x) cs c n (omega arith)
+  reckoned_before p cs c zero l = refl
+  reckoned_before p [] c (suc n) l = absurd (omega arith)
+  reckoned_before p (x ∷ cs) c (suc n) l = reckoned_before (after caps p x) cs c n (omega arith)
 
-  reckoned-push : (p : Prog) (cs : List Call) (c : Call)
+  reckoned_push : (p : Prog) (cs : List Call) (c : Call)
       → reckoned caps p (cs ++ (c ∷ [])) (suc (length cs)) ≡ after caps (reckoned caps p cs (length cs)) c
-  reckoned-push p [] c = refl
-  reckoned-push p (x ∷ cs) c = reckoned-push (after caps p x) cs c
+  reckoned_push p [] c = refl
+  reckoned_push p (x ∷ cs) c = reckoned_push (after caps p x) cs c
 
 module _ (caps : Caps) (start p q : Prog) (cs : List Call) (os : List Answer) (c : Call) (a : Answer)
     (A : AnsweredAll caps start cs os p) (h : Answers caps p c a) (e : q ≡ after caps p c) where
@@ -44,20 +44,20 @@ module _ (caps : Caps) (start p q : Prog) (cs : List Call) (os : List Answer) (c
   last =
       let n = length_push cs c in
       let z : length calls ≡ suc (length cs) = omega arith in
-      ap (reckoned caps start calls) z ∙ reckoned-push caps start cs c
+      ap (reckoned caps start calls) z ∙ reckoned_push caps start cs c
 
   go : (i : ℕ) → (i < length cs) ⊎ (i ≡ length cs) → Here i
   go i (inl l) =
       let n = A.each in
       rw (
-        reckoned-before caps start cs c i (omega arith),
+        reckoned_before caps start cs c i (omega arith),
         get_or_append_left cs (c ∷ []) _ i l,
         get_or_append_left os (a ∷ []) _ i (omega arith),
       ) (A.answers i l)
   go i (inr z) =
       let n = A.each in
       rw (
-        reckoned-before caps start cs c i (omega arith),
+        reckoned_before caps start cs c i (omega arith),
         get_or_push cs c _ i (sym z),
         get_or_push os a _ i (omega arith),
       ) (subst (λ (x : Prog). Answers caps x c a) (A.leaves ∙ ap (reckoned caps start cs) (sym z)) h)
@@ -67,8 +67,8 @@ module _ (caps : Caps) (start p q : Prog) (cs : List Call) (os : List Answer) (c
       let n = length_push cs c in
       go i (⊎_elim (λ u. inl u) (λ u. inr (let z : i ≡ length cs = omega arith in z)) (cases_lt i (length cs)))
 
-  one-more-answered : AnsweredAll caps start (cs ++ (c ∷ [])) (os ++ (a ∷ [])) q
-  one-more-answered =
+  one_more_answered : AnsweredAll caps start (cs ++ (c ∷ [])) (os ++ (a ∷ [])) q
+  one_more_answered =
       record { each = each; answers = answers; leaves = e ∙ ap (λ x. after caps x c) A.leaves ∙ sym last }
 
 -- The calls before call i were answered so, from a tidy start.
@@ -78,7 +78,7 @@ SoFar caps start calls i given left = Tidy start → AnsweredAll caps start (tak
 so_far_tidy : (caps : Caps) (start left : Prog) (calls : List Call) (i : ℕ) (given : List Answer)
     → SoFar caps start calls i given left → StaysTidy start left
 so_far_tidy caps start left calls i given so_far t =
-    let m = main-theorem caps start t (take i calls) given left (so_far t) in
+    let m = main_theorem caps start t (take i calls) given left (so_far t) in
     subst (λ (p : Prog). Tidy p) (sym m.answered.leaves) (m.tidy (length (take i calls)))
 
 -- Call i was made too, and answered by a.
@@ -92,7 +92,7 @@ so_far_more room caps start p q calls i c a given more same l is pushed makes so
     take_more calls i c l ∙ ap (λ x. take i calls ++ (x ∷ [])) (sym is) in
     subst (λ cs. AnsweredAll caps start cs more q) (sym here)
     (subst (λ os. AnsweredAll caps start (take i calls ++ (c ∷ [])) os q) (sym pushed)
-    (one-more-answered caps start p q (take i calls) given c a (so_far t)
+    (one_more_answered caps start p q (take i calls) given c a (so_far t)
     (subst (λ (k : Caps). Answers k p c a) same made.0)
     (made.1 ∙ ap (λ (k : Caps). after k p c) same)))
 
@@ -118,7 +118,7 @@ all_over caps start left calls i given l so_far =
   where
     all : Tidy start → Main caps start calls given left
     all t =
-        main-theorem caps start t calls given left
+        main_theorem caps start t calls given left
         (subst (λ cs. AnsweredAll caps start cs given left) (take_all i calls l) (so_far t))
 
 -- Those before call i were made, and what is given and left is as it was then.
@@ -145,5 +145,5 @@ some_over caps start p left calls i was given l e f so_far =
     some t =
         let A = here t in
         let n : length given ≡ i = A.each ∙ length-take-le i calls (omega arith) in
-        let main = main-theorem caps start t (take i calls) given left A in
+        let main = main_theorem caps start t (take i calls) given left A in
         (omega arith, subst (λ x. Main caps start (take x calls) given left) (sym n) main)

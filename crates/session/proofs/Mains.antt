@@ -16,7 +16,7 @@ use Rattle.program.specs.Edits as edits
 use Rattle.program.specs.Steps.{step}
 use Rattle.program.specs.Graphs.{graph}
 use Rattle.program.specs.Tidy.{Tidy}
-use Rattle.program.proofs.Kept.{step-tidy}
+use Rattle.program.proofs.Kept.{step_tidy}
 use Rattle.rules.specs.declared.line.Line.{Line}
 use Rattle.rules.specs.Lines.{rule_at}
 use Rattle.rules.specs.Postorder.{lines_of}
@@ -51,20 +51,20 @@ module _ (caps : Caps) (p : Prog) where
   stays : (T false → ⊥) → Agree (graph p) (graph p)
   stays h = agree_refl (graph p)
 
-  open-same : (m : ℕ) → Same (open_step caps p m)
-  open-same m =
+  open_same : (m : ℕ) → Same (open_step caps p m)
+  open_same m =
       cond_both (ltb (length p.stages) caps.stages) _ (edits.refused StagesFull p) Same (λ e h. absurd (h tt))
       (λ e. stays)
 
-  mark-same : (s m : ℕ) → Same (mark_step p s m)
-  mark-same s m =
+  mark_same : (s m : ℕ) → Same (mark_step p s m)
+  mark_same s m =
       cond_both (ltb s (length p.stages)) _ (edits.refused NoStage p) Same
       (λ e.
       cond_both (is_open (stage_at p s).kind) _ (edits.refused SilentStage p) Same (λ o h. absurd (h tt)) (λ o. stays))
       (λ e. stays)
 
-  lay-same : (s d t : ℕ) → Same (lay_step caps p s d t)
-  lay-same s d t =
+  lay_same : (s d t : ℕ) → Same (lay_step caps p s d t)
+  lay_same s d t =
       cond_both (ltb s (length p.stages)) _ (edits.refused NoStage p) Same
       (λ ls.
       cond_both (ltb t (length p.stages)) _ (edits.refused NoStage p) Same
@@ -84,11 +84,11 @@ module _ (caps : Caps) (p : Prog) where
       (λ ls. stays)
 
   -- the answer, as it was given, was no accepted open, mark or lay
-  still-agree : (c : Call) (a : Answer) → Tidy p → Answers caps p c a
+  still_agree : (c : Call) (a : Answer) → Tidy p → Answers caps p c a
       → (T (changes c) → T (accepted a) → ⊥) → Agree (graph p) (graph (after caps p c))
-  still-agree (call.Check text) a t h quiet = agree_refl (graph p)
-  still-agree (call.Edit e) (Checked r) t h quiet = absurd h
-  still-agree (call.Edit e) (Edited r) t h quiet = go e h quiet
+  still_agree (call.Check text) a t h quiet = agree_refl (graph p)
+  still_agree (call.Edit e) (Checked r) t h quiet = absurd h
+  still_agree (call.Edit e) (Edited r) t h quiet = go e h quiet
     where
       unmade : (o : Result ℕ EditFault) → r ≡ o → (T (accepted (Edited r)) → ⊥) → T (made o) → ⊥
       unmade o h refused m = refused (made_accepted r (subst (λ x. T (made x)) (sym h) m))
@@ -96,36 +96,36 @@ module _ (caps : Caps) (p : Prog) where
       go : (e : Edit) → r ≡ (step caps p e).answer
           → (T (changes (call.Edit e)) → T (accepted (Edited r)) → ⊥)
           → Agree (graph p) (graph (step caps p e).after)
-      go (edit.Open m) h quiet = open-same m (unmade (open_step caps p m).answer h (quiet tt))
-      go (edit.Mark s m) h quiet = mark-same s m (unmade (mark_step p s m).answer h (quiet tt))
-      go (edit.Lay s d u) h quiet = lay-same s d u (unmade (lay_step caps p s d u).answer h (quiet tt))
+      go (edit.Open m) h quiet = open_same m (unmade (open_step caps p m).answer h (quiet tt))
+      go (edit.Mark s m) h quiet = mark_same s m (unmade (mark_step p s m).answer h (quiet tt))
+      go (edit.Lay s d u) h quiet = lay_same s d u (unmade (lay_step caps p s d u).answer h (quiet tt))
       go (edit.Cut k a) h quiet = same_verdicts_lem.after_cut caps p k a t
       go edit.Join h quiet = same_verdicts_lem.after_join p t
 
 -- Lists of calls
 
 after_tidy : (caps : Caps) (p : Prog) (c : Call) → Tidy p → Tidy (after caps p c)
-after_tidy caps p (call.Edit e) t = step-tidy p caps e t
+after_tidy caps p (call.Edit e) t = step_tidy p caps e t
 after_tidy caps p (call.Check text) t = t
 
 module _ (caps : Caps) where
-  reckoned-more : (p : Prog) (cs : List Call) (n : ℕ) → n < length cs
+  reckoned_more : (p : Prog) (cs : List Call) (n : ℕ) → n < length cs
       → reckoned caps p cs (suc n) ≡ after caps (reckoned caps p cs n) (call_at cs n)
-  reckoned-more p [] n l = absurd (not-suc-le-zero l)
-  reckoned-more p (c ∷ cs) zero l = refl
-  reckoned-more p (c ∷ cs) (suc n) l = reckoned-more (after caps p c) cs n (omega arith)
+  reckoned_more p [] n l = absurd (not-suc-le-zero l)
+  reckoned_more p (c ∷ cs) zero l = refl
+  reckoned_more p (c ∷ cs) (suc n) l = reckoned_more (after caps p c) cs n (omega arith)
 
-  reckoned-past : (p : Prog) (cs : List Call) (n : ℕ) → length cs ≤ n
+  reckoned_past : (p : Prog) (cs : List Call) (n : ℕ) → length cs ≤ n
       → reckoned caps p cs (suc n) ≡ reckoned caps p cs n
-  reckoned-past p [] zero l = refl
-  reckoned-past p [] (suc n) l = refl
-  reckoned-past p (c ∷ cs) zero l = absurd (omega arith)
-  reckoned-past p (c ∷ cs) (suc n) l = reckoned-past (after caps p c) cs n (omega arith)
+  reckoned_past p [] zero l = refl
+  reckoned_past p [] (suc n) l = refl
+  reckoned_past p (c ∷ cs) zero l = absurd (omega arith)
+  reckoned_past p (c ∷ cs) (suc n) l = reckoned_past (after caps p c) cs n (omega arith)
 
-  reckoned-tidy : (p : Prog) (cs : List Call) → Tidy p → (n : ℕ) → Tidy (reckoned caps p cs n)
-  reckoned-tidy p cs t zero = t
-  reckoned-tidy p [] t (suc n) = t
-  reckoned-tidy p (c ∷ cs) t (suc n) = reckoned-tidy (after caps p c) cs (after_tidy caps p c t) n
+  reckoned_tidy : (p : Prog) (cs : List Call) → Tidy p → (n : ℕ) → Tidy (reckoned caps p cs n)
+  reckoned_tidy p cs t zero = t
+  reckoned_tidy p [] t (suc n) = t
+  reckoned_tidy p (c ∷ cs) t (suc n) = reckoned_tidy (after caps p c) cs (after_tidy caps p c t) n
 
 -- What an accepted check told holds of the program, at every stage and past them.
 
@@ -136,8 +136,8 @@ module _ (p : Prog) (lines : List Line) (was sheet : List ℕ) (names : Names p 
   abbrev words : List ℕ
   words = take (length p.stages) sheet
 
-  names-all : (k s : ℕ) → k < length lines → Named words k s ↔ Holds (graph p) (rule_at lines k) s
-  names-all k s lk = go (cases_lt s (length p.stages))
+  names_all : (k s : ℕ) → k < length lines → Named words k s ↔ Holds (graph p) (rule_at lines k) s
+  names_all k s lk = go (cases_lt s (length p.stages))
     where
       go : (s < length p.stages) ⊎ (length p.stages ≤ s) → Named words k s ↔ Holds (graph p) (rule_at lines k) s
       go (inl l) =
@@ -168,7 +168,7 @@ told_right caps p (call.Check text) (Checked (Ok v)) rule words h asked told =
     let same : checks.0 ≡ rule = one_reading_lem (vec_items text) checks.0 rule checks.1.reading asked in
     subst (λ ws. Right p rule ws) (sym h.3.1 ∙ told)
     (subst (λ r. Right p r (take (length p.stages) after.sheet)) same
-    (names-all p (lines_of checks.0) was.sheet after.sheet checks.2.2.names))
+    (names_all p (lines_of checks.0) was.sheet after.sheet checks.2.2.names))
 told_right caps p (call.Check text) (Checked (Err e)) rule words h asked told = absurd told
 
 module _ (caps : Caps) (start : Prog) (tidy : Tidy start) (calls : List Call) (given : List Answer) (left : Prog)
@@ -176,18 +176,18 @@ module _ (caps : Caps) (start : Prog) (tidy : Tidy start) (calls : List Call) (g
   abbrev at_call : ℕ → Prog
   at_call i = reckoned caps start calls i
 
-  all-tidy : (i : ℕ) → Tidy (at_call i)
-  all-tidy i = reckoned-tidy caps start calls tidy i
+  all_tidy : (i : ℕ) → Tidy (at_call i)
+  all_tidy i = reckoned_tidy caps start calls tidy i
 
-  next-agrees : (n : ℕ) → (T (changes (call_at calls n)) → T (accepted (answer_at given n)) → ⊥)
+  next_agrees : (n : ℕ) → (T (changes (call_at calls n)) → T (accepted (answer_at given n)) → ⊥)
       → Agree (graph (at_call n)) (graph (at_call (suc n)))
-  next-agrees n quiet =
+  next_agrees n quiet =
       ⊎_elim
       (λ l.
-      subst (λ (x : Prog). Agree (graph (at_call n)) (graph x)) (sym (reckoned-more caps start calls n l))
-      (still-agree caps (at_call n) (call_at calls n) (answer_at given n) (all-tidy n) (A.answers n l) quiet))
+      subst (λ (x : Prog). Agree (graph (at_call n)) (graph x)) (sym (reckoned_more caps start calls n l))
+      (still_agree caps (at_call n) (call_at calls n) (answer_at given n) (all_tidy n) (A.answers n l) quiet))
       (λ l.
-      subst (λ (x : Prog). Agree (graph (at_call n)) (graph x)) (sym (reckoned-past caps start calls n l))
+      subst (λ (x : Prog). Agree (graph (at_call n)) (graph x)) (sym (reckoned_past caps start calls n l))
       (agree_refl (graph (at_call n))))
       (cases_lt n (length calls))
 
@@ -200,29 +200,29 @@ module _ (caps : Caps) (start : Prog) (tidy : Tidy start) (calls : List Call) (g
       (λ e.
       let l' : i ≤ j = omega arith in
       agree_trans (graph (at_call i)) (graph (at_call j)) (graph (at_call (suc j)))
-      (quiet_agrees i j l' (λ n a b. quiet n a (omega arith))) (next-agrees j (quiet j l' (omega arith))))
+      (quiet_agrees i j l' (λ n a b. quiet n a (omega arith))) (next_agrees j (quiet j l' (omega arith))))
       (cases_eq i (suc j))
 
-  named-right : (i : ℕ) (rule : Rule) (words : List ℕ) → Accepted calls given i rule words
+  named_right : (i : ℕ) (rule : Rule) (words : List ℕ) → Accepted calls given i rule words
       → Right (at_call i) rule words
-  named-right i rule words c =
+  named_right i rule words c =
       told_right caps (at_call i) (call_at calls i) (answer_at given i) rule words (A.answers i c.within) c.asked
       c.told
 
-  pub main-theorem : Main caps start calls given left
-  main-theorem =
+  pub main_theorem : Main caps start calls given left
+  main_theorem =
       record {
         answered = A;
         minutely = λ i rule words c k s l.
-            let a = named-right i rule words c k s l in
-            let b = (same_verdicts_lem.by_the_minute (at_call i) (all-tidy i)).alike (rule_at (lines_of rule) k) s in
+            let a = named_right i rule words c k s l in
+            let b = (same_verdicts_lem.by_the_minute (at_call i) (all_tidy i)).alike (rule_at (lines_of rule) k) s in
             ((λ t. b.0 (a.0 t)), (λ t. a.1 (b.1 t)));
         steady = λ i j rule words words' l quiet c d k s lk.
-            let a = named-right i rule words c k s lk in
+            let a = named_right i rule words c k s lk in
             let b = (quiet_agrees i j l quiet).alike (rule_at (lines_of rule) k) s in
-            let a' = named-right j rule words' d k s lk in
+            let a' = named_right j rule words' d k s lk in
             ((λ t. a'.1 (b.0 (a.0 t))), (λ t. a.1 (b.1 (a'.0 t))));
-        minute_agrees = λ i. same_verdicts_lem.by_the_minute (at_call i) (all-tidy i);
+        minute_agrees = λ i. same_verdicts_lem.by_the_minute (at_call i) (all_tidy i);
         quiet_agrees = quiet_agrees;
-        tidy = all-tidy;
+        tidy = all_tidy;
       }

@@ -5,7 +5,7 @@ use Rattle.program.specs.Meaning.{Prog, Limits}
 use Rattle.tally.specs.declared.Reach.TheVariants as reach
 use Rattle.tally.specs.declared.Shortest.TheVariants as shortest
 use Rattle.tally.specs.declared.Longest.TheVariants as longest
-use Rattle.check.specs.Outcomes.{Memory, memory, Enough}
+use Rattle.checker.specs.Outcomes.{Memory, memory, Enough}
 
 abbrev pub blank : Memory
 blank =

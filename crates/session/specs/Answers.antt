@@ -6,9 +6,9 @@ use Rattle.program.specs.Meaning.{Prog}
 use Rattle.program.specs.Edits.{Caps}
 use Rattle.program.specs.Steps.{step}
 use Rattle.program.specs.Tidy.{Tidy}
-use Rattle.check.specs.declared.faults.CheckFault.{CheckFault}
-use Rattle.check.specs.Outcomes.{Memory, Enough}
-use Rattle.check.specs.Checks.{Check}
+use Rattle.checker.specs.declared.faults.CheckFault.{CheckFault}
+use Rattle.checker.specs.Outcomes.{Memory, Enough}
+use Rattle.checker.specs.Checks.{Check}
 use Rattle.session.specs.declared.calls.Call.{Call}
 use Rattle.session.specs.declared.calls.Call.TheVariants as call
 use Rattle.session.specs.declared.calls.Verdict.{Verdict}

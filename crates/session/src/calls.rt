@@ -1,5 +1,5 @@
 // The calls on a store, and their answers.
-use check::CheckFault;
+use checker::CheckFault;
 use program::EditFault;
 use program::edit::Edit;
 

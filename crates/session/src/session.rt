@@ -6,7 +6,7 @@ ghost use Rattle.session.specs.Answers.{Answered, Makes};
 ghost use Rattle.session.specs.Sessions.{Performed};
 
 use crate::calls::{Answer, Call, OutOfMemory, Verdict};
-use check::check;
+use checker::check;
 use program::{MOST_STAGES, Program, Store};
 use std::alloc::{AllocError, Global};
 use tally::{Longest, Reach, Shortest};
@@ -40,11 +40,11 @@ fn answer_check<P: Program>(heap: Global, program: &P, text: &[u8]) -> Result<An
 
 // Makes one call. Where there is no memory for the answer of a check, nothing is changed.
 fn answer<S: Store>(heap: Global, store: &mut S, call: &Call) -> Result<Answer, AllocError>
-    ensures does { Makes (room store.old) (S.Program.meaning store.old)
+    ensures does { Makes (S.room store.old) (S.Program.meaning store.old)
         call.now result (S.Program.meaning store.new) }
     ensures tidy { StaysTidy (S.Program.meaning store.old)
         (S.Program.meaning store.new) }
-    ensures kept { room store.new ≡ room store.old }
+    ensures kept { S.room store.new ≡ S.room store.old }
 {
     match call {
         Call::Edit(edit) => Ok(Answer::Edited(edit.make(store))),
@@ -60,14 +60,14 @@ pub fn perform<S: Store>(
     calls: &[Call],
 ) -> Result<Vec<Answer>, OutOfMemory>
     ensures main { S.Program.meaning store.old ≡ empty
-        → Performed (room store.old) empty calls.now result
+        → Performed (S.room store.old) empty calls.now result
         (S.Program.meaning store.new) }
     ensures onward { Tidy (S.Program.meaning store.old)
-        → Performed (room store.old) (S.Program.meaning store.old) calls.now result
+        → Performed (S.room store.old) (S.Program.meaning store.old) calls.now result
         (S.Program.meaning store.new) }
     ensures tidy { StaysTidy (S.Program.meaning store.old)
         (S.Program.meaning store.new) }
-    ensures kept { room store.new ≡ room store.old }
+    ensures kept { S.room store.new ≡ S.room store.old }
 {
     let mut answers = Vec::new(heap);
     for call in calls {

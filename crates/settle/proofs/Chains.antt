@@ -1,6 +1,6 @@
 -- Chains of moves: one more move, and a walk over a chain.
-use Rattle.std.proofs.Common.{◌≡◌, ℕ, ◌+◌, ◌-◌, ◌<◌, ◌≤◌, List, length, get_or, set, replicate, sym, refl, ap, ◌∙◌, subst, ⊎_elim, arith}
-use Rattle.std.proofs.lemmas.List.{get_or-set_same, get_or-set_other, get_or-replicate, get_or_past}
+use Rattle.std.proofs.Common.{◌≡◌, ℕ, ◌+◌, ◌-◌, ◌<◌, List, length, get_or, set, sym, ap, ◌∙◌, subst, ⊎_elim, arith}
+use Rattle.std.proofs.lemmas.List.{get_or-set_same, get_or-set_other}
 use Rattle.std.proofs.lemmas.Bool.{cases_eq, cases_lt}
 use Rattle.program.specs.declared.Move.{Move}
 use Rattle.tally.specs.Rounds.{Within}
@@ -10,25 +10,25 @@ use Rattle.settle.specs.Chains.{end_at, Right, Chained}
 
 module _ (end : End) (n : ℕ) (moves : List Move) where
   -- No move is chained yet.
-  pub chained-none : (first next : List ℕ) → ((i : ℕ) → i < n → get_or first i 0 ≡ 0) → Chained end n moves 0 first next
-  chained-none first next e = record {
+  pub chained_none : (first next : List ℕ) → ((i : ℕ) → i < n → get_or first i 0 ≡ 0) → Chained end n moves 0 first next
+  chained_none first next e = record {
     firsts = λ stage l.
         subst (λ x. Right end moves stage 0 x) (sym (e stage l))
         (record { low = omega arith; here = λ h. absurd (omega arith); last = λ j h l. absurd (omega arith) });
     nexts = λ j l. absurd (omega arith);
   }
 
-  right-more : (stage k link : ℕ) → (end_at end moves k ≡ stage → ⊥) → Right end moves stage k link
+  right_more : (stage k link : ℕ) → (end_at end moves k ≡ stage → ⊥) → Right end moves stage k link
       → Right end moves stage (k + 1) link
-  right-more stage k link ne r = record {
+  right_more stage k link ne r = record {
     low = omega (arith, r.low);
     here = r.here;
     last = λ j h l e.
         ⊎_elim (λ q. ne (subst (λ x. end_at end moves x ≡ stage) q e)) (λ d. r.last j h (omega arith) e) (cases_eq j k);
   }
 
-  right-here : (k : ℕ) → Right end moves (end_at end moves k) (k + 1) (k + 1)
-  right-here k = record {
+  right_here : (k : ℕ) → Right end moves (end_at end moves k) (k + 1) (k + 1)
+  right_here k = record {
     low = omega arith;
     here = λ h. ap (end_at end moves) (omega arith);
     last = λ j h l e. omega arith;
@@ -45,10 +45,10 @@ module _ (end : End) (n : ℕ) (moves : List Move) where
             (λ e.
             subst (λ x. Right end moves x (k + 1) (get_or (set first t (k + 1)) x 0)) (sym e)
             (subst (λ x. Right end moves t (k + 1) x) (sym (get_or-set_same first t (k + 1) 0 lf))
-            (subst (λ x. Right end moves x (k + 1) (k + 1)) (sym q) (right-here k))))
+            (subst (λ x. Right end moves x (k + 1) (k + 1)) (sym q) (right_here k))))
             (λ ne.
             subst (λ x. Right end moves stage (k + 1) x) (sym (get_or-set_other first t stage (k + 1) 0 ne))
-            (right-more stage k (get_or first stage 0) (λ e. ne (sym e ∙ sym q)) (c.firsts stage h)))
+            (right_more stage k (get_or first stage 0) (λ e. ne (sym e ∙ sym q)) (c.firsts stage h)))
             (cases_eq stage t);
         nexts = λ j h.
             let v = get_or first t 0 in

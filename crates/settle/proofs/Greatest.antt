@@ -1,5 +1,5 @@
 -- What is left, once each stage watches a move into what is left, is the endless part of the set.
-use Rattle.std.proofs.Common.{◌≡◌, ℕ, zero, suc, ◌-◌, ◌<◌, Bool, true, false, T, List, map, length, get_or, sym, refl, ap, ◌∙◌, subst, ⊎_elim, arith}
+use Rattle.std.proofs.Common.{◌≡◌, ℕ, zero, suc, ◌-◌, ◌<◌, Bool, true, false, T, List, length, get_or, sym, refl, ap, ◌∙◌, subst, ⊎_elim, arith}
 use Rattle.std.proofs.lemmas.List.{get_or-map, length-map, ext_get_or}
 use Rattle.program.specs.declared.Stage.{Stage}
 use Rattle.program.specs.declared.Move.{Move}
@@ -10,7 +10,7 @@ use Rattle.tally.specs.Rounds.{Within}
 use Rattle.tctl.specs.Graph as timed
 use Rattle.tctl.specs.Graph.{Graph, size, count, move_at}
 use Rattle.tctl.specs.Runs.{Ends}
-use Rattle.tctl.specs.Checker.{table, tabFrom, at, endless}
+use Rattle.tctl.specs.Checker.{tab_from, at, endless}
 use Rattle.tctl.specs.Greatest as greatest
 use Rattle.tctl.proofs.Basics.{table_e, table_i}
 use Rattle.tctl.proofs.Greatest.{endless_is_greatest_lem}
@@ -28,7 +28,7 @@ same_bool true false f g = absurd (f tt)
 same_bool false true f g = absurd (g tt)
 same_bool false false f g = refl
 
-length_tab : {A : Type 0} (f : ℕ → A) (n i : ℕ) → length (tabFrom f n i) ≡ n
+length_tab : {A : Type 0} (f : ℕ → A) (n i : ℕ) → length (tab_from f n i) ≡ n
 length_tab f zero i = refl
 length_tab f (suc n) i = ap suc (length_tab f n (suc i))
 
@@ -50,8 +50,8 @@ module _ (stages : List Stage) (moves : List Move) (within : Within (length stag
   counts : count p ≡ length moves
   counts = length-map moves timed_move
 
-  moves-at : (k : ℕ) → k < length moves → move_at p k ≡ timed_move (get_or moves k no_move)
-  moves-at k l = get_or-map timed_move moves k no_move _ l
+  moves_at : (k : ℕ) → k < length moves → move_at p k ≡ timed_move (get_or moves k no_move)
+  moves_at k l = get_or-map timed_move moves k no_move _ l
 
   real : (k : ℕ) → k < count p → k < length moves
   real k l = subst (λ x. k < x) counts l
@@ -59,17 +59,17 @@ module _ (stages : List Stage) (moves : List Move) (within : Within (length stag
   ends : Ends p
   ends = record {
     from = λ k l.
-        subst (λ (m : timed.Move). m.leaves < size p) (sym (moves-at k (real k l)))
+        subst (λ (m : timed.Move). m.leaves < size p) (sym (moves_at k (real k l)))
         (subst (λ x. (get_or moves k no_move).leaves < x) (sym sizes) (within k (real k l)).0);
     to = λ k l.
-        subst (λ (m : timed.Move). m.enters < size p) (sym (moves-at k (real k l)))
+        subst (λ (m : timed.Move). m.enters < size p) (sym (moves_at k (real k l)))
         (subst (λ x. (get_or moves k no_move).enters < x) (sym sizes) (within k (real k l)).1);
   }
 
   -- A move that leads, as the graph has it and as the list.
-  leads-graph : (part : ℕ → Bool) (s k : ℕ) → Leads sort moves part s k → greatest.Leads p (sort_of sort) part s
-  leads-graph part s k l =
-      let e = sym (moves-at k l.real) in
+  leads_graph : (part : ℕ → Bool) (s k : ℕ) → Leads sort moves part s k → greatest.Leads p (sort_of sort) part s
+  leads_graph part s k l =
+      let e = sym (moves_at k l.real) in
       record {
         by = k;
         real = subst (λ x. k < x) (sym counts) l.real;
@@ -78,10 +78,10 @@ module _ (stages : List Stage) (moves : List Move) (within : Within (length stag
         enters = subst (λ (m : timed.Move). T (part m.enters)) e l.enters;
       }
 
-  graph-leads : (part : ℕ → Bool) (s : ℕ) → greatest.Leads p (sort_of sort) part s → (k : ℕ) × Leads sort moves part s k
-  graph-leads part s l =
+  graph_leads : (part : ℕ → Bool) (s : ℕ) → greatest.Leads p (sort_of sort) part s → (k : ℕ) × Leads sort moves part s k
+  graph_leads part s l =
       let k = l.by in
-      let e = moves-at k (real k l.real) in (
+      let e = moves_at k (real k l.real) in (
         k,
         record {
           real = real k l.real;
@@ -96,22 +96,22 @@ module _ (stages : List Stage) (moves : List Move) (within : Within (length stag
     abbrev left : List Bool
     left = endless p (sort_of sort) (row n was) (size p)
 
-    length-was : length (row n was) ≡ size p
-    length-was = length_tab (among was) n 0 ∙ sym sizes
+    length_was : length (row n was) ≡ size p
+    length_was = length_tab (among was) n 0 ∙ sym sizes
 
     great : greatest.Greatest p (sort_of sort) (row n was) left
-    great = endless_is_greatest_lem p ends (sort_of sort) (row n was) (let e = length-was in omega arith)
+    great = endless_is_greatest_lem p ends (sort_of sort) (row n was) (let e = length_was in omega arith)
 
     -- Each stage of the endless part is left, as it lasts.
     all_left : (s : ℕ) → T (at left s) → T (at (row n after) s)
     all_left s t =
         let inside = λ (x : ℕ) (h : T (at left x)). table_e (among was) n x (great.kept.inside x h) in
         table_i (among after) n s (inside s t).0
-        (shrinks.lasts (at left) (λ x h. graph-leads (at left) x (great.kept.onward x h)) (λ x h. (inside x h).1) s t)
+        (shrinks.lasts (at left) (λ x h. graph_leads (at left) x (great.kept.onward x h)) (λ x h. (inside x h).1) s t)
 
     -- What is left lasts, so that it is in the endless part.
-    only-left : (s : ℕ) → T (at (row n after) s) → T (at left s)
-    only-left =
+    only_left : (s : ℕ) → T (at (row n after) s) → T (at left s)
+    only_left =
         great.most (at (row n after)) (record {
           inside = λ s t.
               let o = table_e (among after) n s t in
@@ -121,7 +121,7 @@ module _ (stages : List Stage) (moves : List Move) (within : Within (length stag
               let w = watching s o.0 o.1 in
               let k = get_or r.watched s 0 - 1 in
               let low : k < length moves = omega (arith, w.low, w.real) in
-              leads-graph (at (row n after)) s k (record {
+              leads_graph (at (row n after)) s k (record {
                 real = low;
                 leaves = w.leaves;
                 counts = w.counts;
@@ -130,9 +130,9 @@ module _ (stages : List Stage) (moves : List Move) (within : Within (length stag
               });
         })
 
-    pub endless-left : row n after ≡ endless p (sort_of sort) (row n was) n
-    endless-left =
+    pub endless_left : row n after ≡ endless p (sort_of sort) (row n was) n
+    endless_left =
         ext_get_or false (row n after) left
-        (length_tab (among after) n 0 ∙ sym sizes ∙ sym (length_endless p (sort_of sort) (row n was) length-was (size p)))
-        (λ s l. same_bool (at (row n after) s) (at left s) (only-left s) (all_left s))
+        (length_tab (among after) n 0 ∙ sym sizes ∙ sym (length_endless p (sort_of sort) (row n was) length_was (size p)))
+        (λ s l. same_bool (at (row n after) s) (at left s) (only_left s) (all_left s))
         ∙ ap (endless p (sort_of sort) (row n was)) sizes

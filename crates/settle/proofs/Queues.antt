@@ -1,5 +1,5 @@
 -- What a queue keeps when a stage is put in or taken out.
-use Rattle.std.proofs.Common.{◌≡◌, ℕ, zero, suc, ◌+◌, ◌-◌, ◌%◌, ◌<◌, ◌≤◌, Bool, true, false, T, ◌⊎◌, length, get_or, set, replicate, sym, refl, ap, ◌∙◌, subst, inl, inr, ⊎_elim, arith}
+use Rattle.std.proofs.Common.{◌≡◌, ℕ, zero, suc, ◌+◌, ◌-◌, ◌%◌, ◌<◌, Bool, true, false, T, ◌⊎◌, length, get_or, set, replicate, sym, ap, ◌∙◌, subst, inl, inr, ⊎_elim, arith}
 use Rattle.std.proofs.lemmas.List.{get_or-set_same, get_or-set_other}
 use Rattle.std.proofs.lemmas.Bool.{cases_eq}
 use Rattle.program.specs.Meaning.{most_stages}
@@ -41,8 +41,8 @@ module _ (q : Queue) (ok : Orderly q) where
       count = q.count + 1;
     }
 
-    waits-still : (other : ℕ) → Waits q other → Waits longer other
-    waits-still other w =
+    waits_still : (other : ℕ) → Waits q other → Waits longer other
+    waits_still other w =
         let i = w.others in
         let l = w.inside in
         record {
@@ -52,15 +52,15 @@ module _ (q : Queue) (ok : Orderly q) where
               (λ e. omega arith) ∙ w.is;
         }
 
-    waits-last : Waits longer stage
-    waits-last = record {
+    waits_last : Waits longer stage
+    waits_last = record {
       others = q.count;
       inside = omega arith;
       is = get_or-set_same q.ring ((q.head + q.count) % most_stages) stage 0 (omega arith);
     }
 
-    waits-only : (other : ℕ) → Waits longer other → Waits q other ⊎ (other ≡ stage)
-    waits-only other w =
+    waits_only : (other : ℕ) → Waits longer other → Waits q other ⊎ (other ≡ stage)
+    waits_only other w =
         let i = w.others in
         let l = w.inside in
         ⊎_elim
@@ -80,16 +80,16 @@ module _ (q : Queue) (ok : Orderly q) where
       orderly = record {
         begin = ok.begin;
         few = omega arith;
-        stages = λ other w. ⊎_elim (ok.stages other) (λ e. subst (λ x. x < most_stages) (sym e) low) (waits-only other w);
+        stages = λ other w. ⊎_elim (ok.stages other) (λ e. subst (λ x. x < most_stages) (sym e) low) (waits_only other w);
         told = λ other t.
-            ⊎_elim (λ e. subst (λ x. Waits longer x) (sym e) waits-last)
-            (λ ne. waits-still other
+            ⊎_elim (λ e. subst (λ x. Waits longer x) (sym e) waits_last)
+            (λ ne. waits_still other
             (ok.told other (subst (λ b. T b) (get_or-set_other q.waiting stage other true false ne) t)))
             (cases_eq other stage);
       };
-      still = waits-still;
-      only = waits-only;
-      waits = λ e. waits-last;
+      still = waits_still;
+      only = waits_only;
+      waits = λ e. waits_last;
     }
 
   module _ (some : 0 < q.count) (length-waiting : length q.waiting ≡ most_stages) where
@@ -107,11 +107,11 @@ module _ (q : Queue) (ok : Orderly q) where
     pub waited : Waits q foremost
     waited = record { others = 0; inside = some; is = ap (λ x. get_or q.ring x 0) (let h = ok.begin in omega arith) }
 
-    in-waiting : foremost < length q.waiting
-    in-waiting = let h = ok.stages foremost waited in omega arith
+    in_waiting : foremost < length q.waiting
+    in_waiting = let h = ok.stages foremost waited in omega arith
 
-    waits-others : (other : ℕ) → Waits q other → (other ≡ foremost) ⊎ Waits shorter other
-    waits-others other w =
+    waits_others : (other : ℕ) → Waits q other → (other ≡ foremost) ⊎ Waits shorter other
+    waits_others other w =
         let i = w.others in
         let l = w.inside in
         ⊎_elim
@@ -124,8 +124,8 @@ module _ (q : Queue) (ok : Orderly q) where
         }))
         (cases_eq i 0)
 
-    waits-before : (other : ℕ) → Waits shorter other → Waits q other
-    waits-before other w =
+    waits_before : (other : ℕ) → Waits shorter other → Waits q other
+    waits_before other w =
         let i = w.others in
         let l = w.inside in
         record { others = i + 1; inside = omega arith; is = ap (λ x. get_or q.ring x 0) (omega arith) ∙ w.is }
@@ -135,21 +135,21 @@ module _ (q : Queue) (ok : Orderly q) where
       orderly = record {
         begin = omega arith;
         few = let h = ok.few in omega arith;
-        stages = λ other w. ok.stages other (waits-before other w);
+        stages = λ other w. ok.stages other (waits_before other w);
         told = λ other t.
             ⊎_elim
             (λ e.
-            absurd (subst (λ b. T b) (get_or-set_same q.waiting foremost false false in-waiting)
+            absurd (subst (λ b. T b) (get_or-set_same q.waiting foremost false false in_waiting)
             (subst (λ x. T (get_or (set q.waiting foremost false) x false)) e t)))
             (λ ne.
             ⊎_elim (λ e. absurd (ne e)) (λ w. w)
-            (waits-others other
+            (waits_others other
             (ok.told other (subst (λ b. T b) (get_or-set_other q.waiting foremost other false false ne) t))))
             (cases_eq other foremost);
       };
       waited = waited;
-      others = waits-others;
-      only = waits-before;
+      others = waits_others;
+      only = waits_before;
     }
 
 -- A stage that is put in is among those of the queue.

@@ -7,7 +7,7 @@ use Rattle.tally.specs.Algebras.{Algebra, Laws}
 use Rattle.tally.specs.Walks.{Has}
 use Rattle.tally.specs.Rounds.{begins, poured, entry, Within, KeptFrom}
 use Rattle.tally.specs.Sweeps.{Under, SomeWalks, Partly, Still, InPlace}
-use Rattle.tally.proofs.Sweeps.{under_same, under-trans, under-l, under-r, poured-partly}
+use Rattle.tally.proofs.Sweeps.{under_same, under_trans, under_l, under_r, poured_partly}
 use Rattle.settle.specs.Tended.{AddsNothing, Tended, StillPartly}
 
 -- The number of a move of the list.
@@ -36,7 +36,7 @@ module _ {A : Type 0} (K : Algebra A) (laws : Laws K) (moves : List Move) (pass 
       where
         more : (b : Bool) → Under K (was m.leaves)
             (cond b (K.choice (was m.leaves) (K.before m.minutes (was m.enters))) (was m.leaves))
-        more true = under-l K laws (was m.leaves) (K.before m.minutes (was m.enters))
+        more true = under_l K laws (was m.leaves) (K.before m.minutes (was m.enters))
         more false = laws.idempotent (was m.leaves)
 
     -- It adds what was said of the stage that it enters.
@@ -46,18 +46,18 @@ module _ {A : Type 0} (K : Algebra A) (laws : Laws K) (moves : List Move) (pass 
       where
         more : (b : Bool) → T b → Under K (K.before m.minutes (was m.enters))
             (cond b (K.choice (was m.leaves) (K.before m.minutes (was m.enters))) (was m.leaves))
-        more true t = under-r K laws (was m.leaves) (K.before m.minutes (was m.enters))
+        more true t = under_r K laws (was m.leaves) (K.before m.minutes (was m.enters))
         more false t = absurd t
 
   -- After a move in place the moves that were due, but for it, are due, and those that enter the stage it leaves, if what
   -- is said of that stage changed.
-  pub tended-more : (k : ℕ) (was after : ℕ → A) (due next : ℕ → Type 0) → InPlace K pass (get_or moves k no_move) was after
+  pub tended_more : (k : ℕ) (was after : ℕ → A) (due next : ℕ → Type 0) → InPlace K pass (get_or moves k no_move) was after
       → Tended K moves pass was due
       → ((j : ℕ) → (j ≡ k → ⊥) → due j → next j)
       → ((j : ℕ) → (get_or moves j no_move).enters ≡ (get_or moves k no_move).leaves
       → (after (get_or moves k no_move).leaves ≡ was (get_or moves k no_move).leaves) ⊎ next j)
       → Tended K moves pass after next
-  tended-more k was after due next step tended others changed j l = go (cases_eq (to j) (from k)) (cases_eq j k)
+  tended_more k was after due next step tended others changed j l = go (cases_eq (to j) (from k)) (cases_eq j k)
     where
       to : ℕ → ℕ
       to i = (get_or moves i no_move).enters
@@ -78,7 +78,7 @@ module _ {A : Type 0} (K : Algebra A) (laws : Laws K) (moves : List Move) (pass 
           ⊎_elim
           (λ nothing.
           inl (λ t. subst (λ x. Under K (K.before (minutes j) x) (after (from j))) (sym e)
-          (under-trans K laws (K.before (minutes j) (was (to j))) (was (from j)) (after (from j)) (nothing t)
+          (under_trans K laws (K.before (minutes j) (was (to j))) (was (from j)) (after (from j)) (nothing t)
           (grows (get_or moves k no_move) was after step (from j)))))
           (λ d. inr (others j ne d))
           (tended j l)
@@ -89,8 +89,8 @@ module _ {A : Type 0} (K : Algebra A) (laws : Laws K) (moves : List Move) (pass 
       go (inr ne) which = same (step.keeps (to j) ne) which
 
   -- With nothing due no move adds anything.
-  pub tended-still : (table : ℕ → A) → Tended K moves pass table (λ k. ⊥) → Still K moves pass table
-  tended-still table tended m h =
+  pub tended_still : (table : ℕ → A) → Tended K moves pass table (λ k. ⊥) → Still K moves pass table
+  tended_still table tended m h =
       let o = has_number moves m h in
       let x : Move = get_or moves o.0 no_move in
       subst (λ (x : Move). poured K pass x (table x.leaves) (table x.enters) ≡ table x.leaves) o.2
@@ -102,11 +102,11 @@ module _ {A : Type 0} (K : Algebra A) (laws : Laws K) (moves : List Move) (pass 
       go false x y u = refl
 
   -- At the beginning the moves that enter a goal are due.
-  pub tended-none : (goals : ℕ → Bool) (table : ℕ → A) (due : ℕ → Type 0)
+  pub tended_none : (goals : ℕ → Bool) (table : ℕ → A) (due : ℕ → Type 0)
       → ((k : ℕ) → k < length moves → table (get_or moves k no_move).enters ≡ begins K goals (get_or moves k no_move).enters)
       → ((k : ℕ) → k < length moves → T (goals (get_or moves k no_move).enters) → due k)
       → Tended K moves pass table due
-  tended-none goals table due begun waits k l =
+  tended_none goals table due begun waits k l =
       go (goals (get_or moves k no_move).enters) refl
     where
       m : Move
@@ -126,7 +126,7 @@ module _ {A : Type 0} (K : Algebra A) (laws : Laws K) (n : ℕ) (moves : List Mo
   pub partly_more : (was mid after : ℕ → A) → InPlace K pass (get_or moves k no_move) mid after
       → StillPartly K n moves pass was mid → StillPartly K n moves pass was after
   partly_more was mid after step still goals so =
-      poured-partly K laws n moves within pass goals (get_or moves k no_move) (number_has moves k real) mid after step
+      poured_partly K laws n moves within pass goals (get_or moves k no_move) (number_has moves k real) mid after step
       (still goals so)
 
   -- It keeps what stands above the stages.

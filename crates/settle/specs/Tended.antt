@@ -1,5 +1,5 @@
 -- Tables that are settled by a queue of stages whose value changed.
-use Rattle.std.specs.Prelude.{◌≡◌, ℕ, ◌<◌, Bool, true, T, ◌⊎◌, List, length, slice_index_or}
+use Rattle.std.specs.Prelude.{ℕ, ◌<◌, Bool, T, ◌⊎◌, List, length, slice_index_or}
 use Rattle.program.specs.declared.Move.{Move}
 use Rattle.program.specs.Meaning.{no_move}
 use Rattle.tally.specs.Algebras.{Algebra}

@@ -42,14 +42,14 @@ with_below false k w l = let e = pow-add 2 k 1 in omega arith
 -- A column more
 module _ (n k : ℕ) (was after : List ℕ) (L : List Bool) (e : (s : ℕ) → s < n → get_or after s 0
     ≡ get_or was s 0 + cond (at L s) (2 ^ k) 0) where
-  pub column-kept : (j : ℕ) → j < k → column n after j ≡ column n was j
-  column-kept j l =
+  pub column_kept : (j : ℕ) → j < k → column n after j ≡ column n was j
+  column_kept j l =
       table_same (λ s. bit j (get_or after s 0)) (λ s. bit j (get_or was s 0)) n
       (λ s h. ap (bit j) (e s h) ∙ with_kept (at L s) j k (get_or was s 0) l)
 
   module _ (below : (s : ℕ) → s < n → get_or was s 0 < 2 ^ k) where
-    pub column-new : column n after k ≡ table n (at L)
-    column-new =
+    pub column_new : column n after k ≡ table n (at L)
+    column_new =
         table_same (λ s. bit k (get_or after s 0)) (at L) n
         (λ s h. ap (bit k) (e s h) ∙ with_here (at L s) k (get_or was s 0) (below s h))
 

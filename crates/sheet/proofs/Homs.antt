@@ -1,5 +1,5 @@
 -- What the tallies of the code tell is what the theory's tallies tell.
-use Rattle.std.proofs.Common.{◌≡◌, ℕ, zero, suc, ◌<◌, ◌≤◌, min, Bool, true, false, cond, eqb, ◌⊎◌, List, [], ◌∷◌, map, length, get_or, sym, refl, ap, ◌∙◌, ⊎_elim, arith}
+use Rattle.std.proofs.Common.{◌≡◌, ℕ, zero, suc, ◌<◌, ◌≤◌, min, Bool, true, false, cond, eqb, List, [], ◌∷◌, map, length, get_or, sym, refl, ap, ◌∙◌, ⊎_elim, arith}
 use Rattle.std.proofs.lemmas.Bool.{cases_lt, le-leb, lt-leb}
 use Rattle.program.specs.declared.Move.{Move}
 use Rattle.program.specs.Graphs.{timed_move}
@@ -12,7 +12,7 @@ use Rattle.tally.specs.declared.Longest.TheVariants as long
 use Rattle.tally.specs.Algebras.{Algebra, Laws, most_sum, reach_algebra, shortest_algebra, longest_algebra}
 use Rattle.tally.specs.Walks.{among, tallied}
 use Rattle.tally.specs.Rounds.{Within, over, begins, rounds}
-use Rattle.tally.proofs.Rounds.{within-tail, rounds-tally}
+use Rattle.tally.proofs.Rounds.{within_tail, rounds_tally}
 use Rattle.tctl.specs.Graph.{Graph, Stage, size}
 use Rattle.tctl.specs.Checker as th
 use Rattle.tctl.specs.Checker.{Entry, none, sum, shortest, longest, at, some?, most?, least?}
@@ -34,14 +34,14 @@ module _ {A : Type 0} (k : th.Kind) (K : Algebra A) (h : Entry → A) (hom : Hom
   abbrev p : Graph
   p = record { stages = S; moves = map timed_move moves }
 
-  over-hom : (was : List Entry) (f : ℕ → A) → ((t : ℕ) → t < size p → f t ≡ h (get_or was t none)) → (ms : List Move)
+  over_hom : (was : List Entry) (f : ℕ → A) → ((t : ℕ) → t < size p → f t ≡ h (get_or was t none)) → (ms : List Move)
       → Within (size p) ms → (s : ℕ) → over K f ms s ≡ h (th.over k (map timed_move ms) was s)
-  over-hom was f e [] w s = sym hom.to_none
-  over-hom was f e (m ∷ ms) w s =
+  over_hom was f e [] w s = sym hom.to_none
+  over_hom was f e (m ∷ ms) w s =
       let one : K.before m.minutes (f m.enters) ≡ h (th.after m.minutes (get_or was m.enters none)) =
       ap (K.before m.minutes) (e m.enters (w 0 (omega arith)).1)
       ∙ sym (hom.to_before m.minutes (get_or was m.enters none)) in
-      go (eqb m.leaves s) one (over-hom was f e ms (within-tail K (size p) m ms w) s)
+      go (eqb m.leaves s) one (over_hom was f e ms (within_tail K (size p) m ms w) s)
     where
       go : (b : Bool) → K.before m.minutes (f m.enters) ≡ h (th.after m.minutes (get_or was m.enters none))
           → over K f ms s ≡ h (th.over k (map timed_move ms) was s)
@@ -55,27 +55,27 @@ module _ {A : Type 0} (k : th.Kind) (K : Algebra A) (h : Entry → A) (hom : Hom
           (th.over k (map timed_move ms) was s))
       go false one ih = ih
 
-  begins-hom : (s : ℕ) → s < size p → begins K (among goals) s ≡ h (th.begin (row (size p) goals) s)
-  begins-hom s l = go (among goals s) ∙ ap (λ b. h (cond b (sum 0) none)) (sym (row_at (size p) goals s l))
+  begins_hom : (s : ℕ) → s < size p → begins K (among goals) s ≡ h (th.begin (row (size p) goals) s)
+  begins_hom s l = go (among goals s) ∙ ap (λ b. h (cond b (sum 0) none)) (sym (row_at (size p) goals s l))
     where
       go : (b : Bool) → cond b K.start K.none ≡ h (cond b (sum 0) none)
       go true = sym hom.to_start
       go false = sym hom.to_none
 
-  pub rounds-hom : (i s : ℕ) → s < size p → rounds K moves (among pass) (among goals) i s
+  pub rounds_hom : (i s : ℕ) → s < size p → rounds K moves (among pass) (among goals) i s
       ≡ h (get_or (th.tally p k (row (size p) pass) (row (size p) goals) i) s none)
-  rounds-hom zero s l = begins-hom s l ∙ ap h (sym (table_at (th.begin (row (size p) goals)) none (size p) s l))
-  rounds-hom (suc i) s l =
+  rounds_hom zero s l = begins_hom s l ∙ ap h (sym (table_at (th.begin (row (size p) goals)) none (size p) s l))
+  rounds_hom (suc i) s l =
       let was = th.tally p k (row (size p) pass) (row (size p) goals) i in
       let P = row (size p) pass in
       let G = row (size p) goals in
       let rest : cond (among pass s) (over K (rounds K moves (among pass) (among goals) i) moves s) K.none
       ≡ h (cond (at P s) (th.over k p.moves was s) none) =
-      go (among pass s) _ (th.over k p.moves was s) (over-hom was (rounds K moves (among pass) (among goals) i)
-      (rounds-hom i) moves within s)
+      go (among pass s) _ (th.over k p.moves was s) (over_hom was (rounds K moves (among pass) (among goals) i)
+      (rounds_hom i) moves within s)
       ∙ ap (λ b. h (cond b (th.over k p.moves was s) none)) (sym (row_at (size p) pass s l)) in
       ap (λ x. K.choice x (cond (among pass s) (over K (rounds K moves (among pass) (among goals) i) moves s)
-      K.none)) (begins-hom s l)
+      K.none)) (begins_hom s l)
       ∙ ap (K.choice (h (th.begin G s))) rest
       ∙ sym (hom.to_choice (th.begin G s) (cond (at P s) (th.over k p.moves was s) none))
       ∙ ap h (sym (table_at (λ x. th.choice k (th.begin G x) (cond (at P x) (th.over k p.moves was x) none)) none
@@ -158,23 +158,23 @@ module _ (S : List Stage) (moves : List Move) (within : Within (length S) moves)
   abbrev q : Graph
   q = record { stages = S; moves = map timed_move moves }
 
-  pub told-reach : Laws reach_algebra → reaches c (tallied reach_algebra moves (among pass) (among goals) i s)
+  pub told_reach : Laws reach_algebra → reaches c (tallied reach_algebra moves (among pass) (among goals) i s)
       ≡ some? (get_or (th.tally q shortest (row (length S) pass) (row (length S) goals) i) s none)
-  told-reach laws =
-      ap (reaches c) (rounds-tally reach_algebra laws moves (among pass) (among goals) i s
-      ∙ rounds-hom shortest reach_algebra to_reach reach_hom S moves within pass goals i s l)
+  told_reach laws =
+      ap (reaches c) (rounds_tally reach_algebra laws moves (among pass) (among goals) i s
+      ∙ rounds_hom shortest reach_algebra to_reach reach_hom S moves within pass goals i s l)
       ∙ reach_told c (get_or (th.tally q shortest (row (length S) pass) (row (length S) goals) i) s none)
 
-  pub told-short : Laws shortest_algebra → c < most_sum → short_to c (tallied shortest_algebra moves (among pass)
+  pub told_short : Laws shortest_algebra → c < most_sum → short_to c (tallied shortest_algebra moves (among pass)
       (among goals) i s) ≡ most? c (get_or (th.tally q shortest (row (length S) pass) (row (length S) goals) i) s none)
-  told-short laws b =
-      ap (short_to c) (rounds-tally shortest_algebra laws moves (among pass) (among goals) i s
-      ∙ rounds-hom shortest shortest_algebra to_short short_hom S moves within pass goals i s l)
+  told_short laws b =
+      ap (short_to c) (rounds_tally shortest_algebra laws moves (among pass) (among goals) i s
+      ∙ rounds_hom shortest shortest_algebra to_short short_hom S moves within pass goals i s l)
       ∙ short_told c b (get_or (th.tally q shortest (row (length S) pass) (row (length S) goals) i) s none)
 
-  pub told-long : Laws longest_algebra → c ≤ most_sum → long_from c (tallied longest_algebra moves (among pass)
+  pub told_long : Laws longest_algebra → c ≤ most_sum → long_from c (tallied longest_algebra moves (among pass)
       (among goals) i s) ≡ least? c (get_or (th.tally q longest (row (length S) pass) (row (length S) goals) i) s none)
-  told-long laws b =
-      ap (long_from c) (rounds-tally longest_algebra laws moves (among pass) (among goals) i s
-      ∙ rounds-hom longest longest_algebra to_long long_hom S moves within pass goals i s l)
+  told_long laws b =
+      ap (long_from c) (rounds_tally longest_algebra laws moves (among pass) (among goals) i s
+      ∙ rounds_hom longest longest_algebra to_long long_hom S moves within pass goals i s l)
       ∙ long_told c b (get_or (th.tally q longest (row (length S) pass) (row (length S) goals) i) s none)

@@ -1,5 +1,5 @@
 -- Sets as lists and as rows of words.
-use Rattle.std.proofs.Common.{◌≡◌, ℕ, zero, suc, ◌+◌, ◌<◌, ◌≤◌, Bool, true, false, eqb, ltb, ◌⊎◌, List, ◌∷◌, map, length, get_or, set, sym, refl, ap, ◌∙◌, subst, ⊎_elim, arith}
+use Rattle.std.proofs.Common.{◌≡◌, ℕ, zero, suc, ◌+◌, ◌<◌, ◌≤◌, Bool, true, false, eqb, ltb, List, ◌∷◌, map, length, get_or, set, sym, refl, ap, ◌∙◌, subst, ⊎_elim, arith}
 use Rattle.std.proofs.lemmas.List.{get_or-set_same, get_or-set_other, get_or-map, length-map}
 use Rattle.std.proofs.lemmas.Bool.{cases_eq, eq-eqb, ne_eqb}
 use Rattle.tctl.specs.Graph.{Move, Graph}
@@ -10,16 +10,16 @@ use Rattle.program.specs.Graphs.{timed_stage, timed_move}
 use Rattle.tally.specs.Walks.{among}
 use Rattle.tally.specs.Rounds.{Within}
 use Rattle.tctl.specs.Runs.{Sound}
-use Rattle.tctl.specs.Checker.{table, tabFrom, at, into, endless, ◌and◌, ◌or◌}
+use Rattle.tctl.specs.Checker.{table, tab_from, at, into, endless, ◌and◌, ◌or◌}
 use Rattle.tctl.proofs.Basics.{table_at}
 use Rattle.sheet.specs.Rows.{graph_of, row, shrunk, Says}
 use Rattle.sheet.specs.Told.{Spent, Blank}
 
-tab_same : {A : Type 0} (f h : ℕ → A) (n i : ℕ) → ((s : ℕ) → i ≤ s → s < i + n → f s ≡ h s) → tabFrom f n i
-    ≡ tabFrom h n i
+tab_same : {A : Type 0} (f h : ℕ → A) (n i : ℕ) → ((s : ℕ) → i ≤ s → s < i + n → f s ≡ h s) → tab_from f n i
+    ≡ tab_from h n i
 tab_same f h zero i e = refl
 tab_same f h (suc n) i e =
-    ap (λ x. x ∷ tabFrom f n (suc i)) (e i (omega arith) (omega arith))
+    ap (λ x. x ∷ tab_from f n (suc i)) (e i (omega arith) (omega arith))
     ∙ ap (λ xs. h i ∷ xs) (tab_same f h n (suc i) (λ s l u. e s (omega arith) (omega arith)))
 
 -- Tables are equal where their entries are.

@@ -1,5 +1,5 @@
 // The greatest part of a set in which each stage has a move into the part, by removal.
-ghost use Rattle.std.specs.Prelude.{◌≡◌, ℕ, ◌<◌, ◌≤◌, true, length, ◌≢◌, slice_index, slice_index_or};
+ghost use Rattle.std.specs.Prelude.{◌≡◌, ℕ, ◌<◌, ◌≤◌, true, length, ◌≢◌, slice_index};
 ghost use Rattle.program.specs.Graphs.{timed_move};
 ghost use Rattle.tally.specs.Walks.{among};
 ghost use Rattle.tally.specs.Rounds.{Within};
@@ -41,8 +41,7 @@ fn mark_one(sort: Sort, m: Move, set: &[u32], has: &mut [u32])
     ensures marked { among has.new m.leaves
         ≡ either (among has.old m.leaves)
         (both (sort_of sort (timed_move m)) (among set.now m.enters)) }
-    ensures others { (i : ℕ) → (i ≢ m.leaves) → slice_index has.new i ≡ slice_index_or has.old i
-        0 }
+    ensures others { (i : ℕ) → (i ≢ m.leaves) → slice_index has.new i ≡ slice_index has.old i }
 {
     if set[m.enters as usize] > 0 {
         if counts(sort, m) {

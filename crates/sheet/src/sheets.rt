@@ -1,5 +1,5 @@
 // The sheet, a column a line: word s has bit k exactly for the lines k that hold at stage s.
-ghost use Rattle.std.specs.Prelude.{◌≡◌, ◌+◌, ◌*◌, ◌^◌, ◌<◌, ◌≤◌, ltb, [], length, if◌then◌else◌, nat_lt};
+ghost use Rattle.std.specs.Prelude.{◌≡◌, ◌+◌, ◌*◌, ◌^◌, ◌<◌, ◌≤◌, [], length, if◌then◌else◌, nat_lt};
 ghost use Rattle.program.specs.Meaning.{most_stages};
 ghost use Rattle.rules.specs.Lines.{most_lines, largest_number, bound_number, Formed, WellFormed};
 ghost use Rattle.tally.specs.Algebras.{reach_algebra, shortest_algebra, longest_algebra};
@@ -31,7 +31,7 @@ fn bit_of(word: u32, k: u32) -> u32
 // The word with value 2^k set, if the line holds.
 fn with_line(word: u32, k: u32, holds: u32) -> u32
     requires { (k < most_lines) × (word < 2 ^ k) }
-    ensures { result ≡ word + (if ltb 0 holds then 2 ^ k else 0) }
+    ensures { result ≡ word + (if nat_lt 0 holds then 2 ^ k else 0) }
 {
     if holds > 0 { word | (1 << k) } else { word }
 }

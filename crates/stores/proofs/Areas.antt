@@ -5,6 +5,7 @@ use Rattle.std.proofs.lemmas.List.{append_assoc, append-nil, length-append, leng
 use Rattle.std.specs.List.{remove as removed, between}
 use Rattle.std.proofs.lemmas.List.Edits.{length-remove}
 use Rattle.stores.specs.Areas.{put, taken_out, number_at, Layout, bytes, in_use, filled, Holds}
+use Rattle.stores.specs.InUse.{length_in_use}
 
 pub number_at-drop : (n : ℕ) (bs : List ℕ) (i : ℕ) → number_at (drop n bs) i ≡ number_at bs (n + i)
 number_at-drop n bs i =
@@ -36,31 +37,27 @@ pub record Written {X : Type 0} (l : Layout X) (n : ℕ) (bs : List ℕ) (xs : L
   pub holds : Holds l n bs
 
 module _ {X : Type 0} (l : Layout X) where
-  pub length-inUse : (n : ℕ) (bs : List ℕ) → length (in_use l n bs) ≡ n
-  length-inUse zero bs = refl
-  length-inUse (suc n) bs = ap suc (length-inUse n (drop l.width bs))
+  pub below-in_use : (n i : ℕ) (bs : List ℕ) → i < length (in_use l n bs) → i < n
+  below-in_use n i bs h = rw (length_in_use l n bs) at h
 
-  pub below-inUse : (n i : ℕ) (bs : List ℕ) → i < length (in_use l n bs) → i < n
-  below-inUse n i bs h = rw (length-inUse n bs) at h
-
-  pub getD-inUse : (n i : ℕ) (bs : List ℕ) (d : X) → i < n
+  pub get_or-in_use : (n i : ℕ) (bs : List ℕ) (d : X) → i < n
       → get_or (in_use l n bs) i d ≡ l.read (drop (l.width * i) bs)
-  getD-inUse zero i bs d h = absurd (omega arith)
-  getD-inUse (suc n) zero bs d h = rw (mul-zero l.width)
-  getD-inUse (suc n) (suc i) bs d h =
+  get_or-in_use zero i bs d h = absurd (omega arith)
+  get_or-in_use (suc n) zero bs d h = rw (mul-zero l.width)
+  get_or-in_use (suc n) (suc i) bs d h =
       let e : l.width * suc i ≡ l.width + l.width * i = mul-suc l.width i ∙ add_comm _ _ in
-      getD-inUse n i (drop l.width bs) d (omega arith)
+      get_or-in_use n i (drop l.width bs) d (omega arith)
       ∙ ap l.read (drop-drop (l.width * i) l.width bs ∙ ap (λ k. drop k bs) (sym e))
 
 module _ {X : Type 0} (l : Layout X) (law : Lawful l) where
-  pub inUse-bytes : (xs : List X) (rest : List ℕ) → in_use l (length xs) (bytes l xs ++ rest) ≡ xs
-  inUse-bytes [] rest = refl
-  inUse-bytes (x ∷ xs) rest =
+  pub in_use-bytes : (xs : List X) (rest : List ℕ) → in_use l (length xs) (bytes l xs ++ rest) ≡ xs
+  in_use-bytes [] rest = refl
+  in_use-bytes (x ∷ xs) rest =
       rw (
         append_assoc (l.write x) (bytes l xs) rest,
         law.back x (bytes l xs ++ rest),
         drop_at (l.write x) (bytes l xs ++ rest) l.width (law.wide x),
-        inUse-bytes xs rest,
+        in_use-bytes xs rest,
       )
 
   -- what lies behind the first record is written as if it stood alone
@@ -83,70 +80,70 @@ module _ {X : Type 0} (l : Layout X) (law : Lawful l) where
       ∙ ap (λ r. l.write y ++ r) (put_record xs rest i x (omega arith))
       ∙ sym (append_assoc (l.write y) (bytes l (set xs i x)) rest)
 
-  pub put-behind : (xs : List X) (rest : List ℕ) (x : X)
+  pub put_behind : (xs : List X) (rest : List ℕ) (x : X)
       → put (bytes l xs ++ rest) (l.width * length xs) (l.write x)
       ≡ bytes l (xs ++ (x ∷ [])) ++ drop l.width rest
-  put-behind [] rest x =
+  put_behind [] rest x =
       rw (mul-zero l.width, zero-add (length (l.write x)), law.wide x, append-nil (l.write x))
-  put-behind (y ∷ xs) rest x =
+  put_behind (y ∷ xs) rest x =
       ap (λ r. put r (l.width * suc (length xs)) (l.write x)) (append_assoc (l.write y) (bytes l xs) rest)
       ∙ put_next y (bytes l xs ++ rest) (length xs) (l.write x)
-      ∙ ap (λ r. l.write y ++ r) (put-behind xs rest x)
+      ∙ ap (λ r. l.write y ++ r) (put_behind xs rest x)
       ∙ sym (append_assoc (l.write y) (bytes l (xs ++ (x ∷ []))) (drop l.width rest))
 
-  length-bytes : (xs : List X) → length (bytes l xs) ≡ l.width * length xs
-  length-bytes [] = sym (mul-zero l.width)
-  length-bytes (x ∷ xs) =
+  length_bytes : (xs : List X) → length (bytes l xs) ≡ l.width * length xs
+  length_bytes [] = sym (mul-zero l.width)
+  length_bytes (x ∷ xs) =
       length-append (l.write x) (bytes l xs) ∙ ap (λ n. n + length (bytes l xs)) (law.wide x)
-      ∙ ap (λ n. l.width + n) (length-bytes xs) ∙ add_comm _ _ ∙ sym (mul-suc l.width (length xs))
+      ∙ ap (λ n. l.width + n) (length_bytes xs) ∙ add_comm _ _ ∙ sym (mul-suc l.width (length xs))
 
-  bytes-append : (xs ys : List X) → bytes l (xs ++ ys) ≡ bytes l xs ++ bytes l ys
-  bytes-append [] ys = refl
-  bytes-append (x ∷ xs) ys =
-      ap (λ r. l.write x ++ r) (bytes-append xs ys) ∙ sym (append_assoc (l.write x) (bytes l xs) (bytes l ys))
+  bytes_append : (xs ys : List X) → bytes l (xs ++ ys) ≡ bytes l xs ++ bytes l ys
+  bytes_append [] ys = refl
+  bytes_append (x ∷ xs) ys =
+      ap (λ r. l.write x ++ r) (bytes_append xs ys) ∙ sym (append_assoc (l.write x) (bytes l xs) (bytes l ys))
 
   -- the records before i, and the others with what lies behind
-  bytes-split : (xs : List X) (rest : List ℕ) (i : ℕ)
+  bytes_split : (xs : List X) (rest : List ℕ) (i : ℕ)
       → bytes l xs ++ rest ≡ bytes l (take i xs) ++ (bytes l (drop i xs) ++ rest)
-  bytes-split xs rest i =
+  bytes_split xs rest i =
       ap (λ ys. bytes l ys ++ rest) (sym (take-append-drop i xs))
-      ∙ ap (λ bs. bs ++ rest) (bytes-append (take i xs) (drop i xs))
+      ∙ ap (λ bs. bs ++ rest) (bytes_append (take i xs) (drop i xs))
       ∙ append_assoc (bytes l (take i xs)) (bytes l (drop i xs)) rest
 
   module _ (xs : List X) (rest : List ℕ) (i : ℕ) (h : i ≤ length xs) where
-    length-bytes-take : length (bytes l (take i xs)) ≡ l.width * i
-    length-bytes-take = length-bytes (take i xs) ∙ ap (λ n. l.width * n) (length-take-le i xs h)
+    length_bytes_take : length (bytes l (take i xs)) ≡ l.width * i
+    length_bytes_take = length_bytes (take i xs) ∙ ap (λ n. l.width * n) (length-take-le i xs h)
 
-    take-bytes : take (l.width * i) (bytes l xs ++ rest) ≡ bytes l (take i xs)
-    take-bytes = ap (take (l.width * i)) (bytes-split xs rest i) ∙ take_at (bytes l (take i xs)) _ _ length-bytes-take
+    take_bytes : take (l.width * i) (bytes l xs ++ rest) ≡ bytes l (take i xs)
+    take_bytes = ap (take (l.width * i)) (bytes_split xs rest i) ∙ take_at (bytes l (take i xs)) _ _ length_bytes_take
 
-    drop-bytes : drop (l.width * i) (bytes l xs ++ rest) ≡ bytes l (drop i xs) ++ rest
-    drop-bytes = ap (drop (l.width * i)) (bytes-split xs rest i) ∙ drop_at (bytes l (take i xs)) _ _ length-bytes-take
+    drop_bytes : drop (l.width * i) (bytes l xs ++ rest) ≡ bytes l (drop i xs) ++ rest
+    drop_bytes = ap (drop (l.width * i)) (bytes_split xs rest i) ∙ drop_at (bytes l (take i xs)) _ _ length_bytes_take
 
   -- the records behind i
-  between-bytes : (xs : List X) (rest : List ℕ) (i : ℕ) → i < length xs
+  between_bytes : (xs : List X) (rest : List ℕ) (i : ℕ) → i < length xs
       → between (l.width * (i + 1)) (l.width * length xs) (bytes l xs ++ rest) ≡ bytes l (drop (i + 1) xs)
-  between-bytes xs rest i h =
+  between_bytes xs rest i h =
       let w = l.width in
       let n = length xs in
       let behind = drop (i + 1) xs in
       let m : (i + 1) + length behind ≡ n = simp length-drop (omega arith) in
       let wide : w * n ≡ w * (i + 1) + w * length behind =
       ap (λ k. w * k) (sym m) ∙ mul-add w (i + 1) (length behind) in
-      let long : length (bytes l behind) ≡ w * n - w * (i + 1) = omega (arith, length-bytes behind) in
-      ap (take (w * n - w * (i + 1))) (drop-bytes xs rest (i + 1) (omega arith)) ∙ take_at (bytes l behind) rest _ long
+      let long : length (bytes l behind) ≡ w * n - w * (i + 1) = omega (arith, length_bytes behind) in
+      ap (take (w * n - w * (i + 1))) (drop_bytes xs rest (i + 1) (omega arith)) ∙ take_at (bytes l behind) rest _ long
 
-  pub takenOut-bytes : (xs : List X) (rest : List ℕ) (i : ℕ) → i < length xs
+  pub taken_out-bytes : (xs : List X) (rest : List ℕ) (i : ℕ) → i < length xs
       → taken_out l.width (length xs) i (bytes l xs ++ rest)
       ≡ bytes l (removed xs i) ++ (replicate l.width 0 ++ rest)
-  takenOut-bytes xs rest i h =
+  taken_out-bytes xs rest i h =
       let w = l.width in
       let n = length xs in
       let next : i + 1 ≡ suc i = omega arith in
-      let past : drop (w * n) (bytes l xs ++ rest) ≡ rest = drop_at (bytes l xs) rest (w * n) (length-bytes xs) in
-      rw (take-bytes xs rest i (omega arith), between-bytes xs rest i h, past)
+      let past : drop (w * n) (bytes l xs ++ rest) ≡ rest = drop_at (bytes l xs) rest (w * n) (length_bytes xs) in
+      rw (take_bytes xs rest i (omega arith), between_bytes xs rest i h, past)
       (sym (append_assoc (bytes l (take i xs)) (bytes l (drop (i + 1) xs)) (replicate w 0 ++ rest))
-      ∙ ap (λ bs. bs ++ (replicate w 0 ++ rest)) (sym (bytes-append (take i xs) (drop (i + 1) xs)))
+      ∙ ap (λ bs. bs ++ (replicate w 0 ++ rest)) (sym (bytes_append (take i xs) (drop (i + 1) xs)))
       ∙ ap (λ k. bytes l (take i xs ++ drop k xs) ++ (replicate w 0 ++ rest)) next)
 
   pub written : (n k : ℕ) (bs : List ℕ) (xs : List X) → length xs ≡ n → bs ≡ bytes l xs ++ replicate k 0
@@ -155,7 +152,7 @@ module _ {X : Type 0} (l : Layout X) (law : Lawful l) where
       let zeros : length bs - length (bytes l xs) ≡ k =
       omega (arith, ap length h ∙ length-append (bytes l xs) (replicate k 0), length-replicate {A = ℕ} k 0) in
       let r : in_use l n bs ≡ xs =
-      ap (λ m. in_use l m bs) (sym e) ∙ ap (in_use l (length xs)) h ∙ inUse-bytes xs (replicate k 0) in
+      ap (λ m. in_use l m bs) (sym e) ∙ ap (in_use l (length xs)) h ∙ in_use-bytes xs (replicate k 0) in
       record {
         reads = r;
         holds =
@@ -166,39 +163,39 @@ module _ {X : Type 0} (l : Layout X) (law : Lawful l) where
 
   -- the record x written to an area of n records
   module _ (n : ℕ) (bs : List ℕ) (h : Holds l n bs) (x : X) where
-    pub record-appended : (new : List ℕ) → new ≡ put bs (l.width * n) (l.write x)
+    pub record_appended : (new : List ℕ) → new ≡ put bs (l.width * n) (l.write x)
         → Written l (n + 1) new (in_use l n bs ++ (x ∷ []))
-    record-appended new e =
+    record_appended new e =
         let xs = in_use l n bs in
         let k = length bs - length (bytes l xs) in
         let put_is : put bs (l.width * n) (l.write x) ≡ bytes l (xs ++ (x ∷ [])) ++ replicate (k - l.width) 0 =
         ap (λ r. put r (l.width * n) (l.write x)) h
-        ∙ ap (λ m. put (bytes l xs ++ replicate k 0) (l.width * m) (l.write x)) (sym (length-inUse l n bs))
-        ∙ put-behind xs (replicate k 0) x
+        ∙ ap (λ m. put (bytes l xs ++ replicate k 0) (l.width * m) (l.write x)) (sym (length_in_use l n bs))
+        ∙ put_behind xs (replicate k 0) x
         ∙ ap (λ r. bytes l (xs ++ (x ∷ [])) ++ r) (drop-replicate l.width k 0) in
-        written (n + 1) (k - l.width) _ _ (length_push xs x ∙ ap (λ m. m + 1) (length-inUse l n bs)) (e ∙ put_is)
+        written (n + 1) (k - l.width) _ _ (length_push xs x ∙ ap (λ m. m + 1) (length_in_use l n bs)) (e ∙ put_is)
 
-    pub record-replaced : (i : ℕ) (new : List ℕ) → i < n → new ≡ put bs (l.width * i) (l.write x)
+    pub record_replaced : (i : ℕ) (new : List ℕ) → i < n → new ≡ put bs (l.width * i) (l.write x)
         → Written l n new (set (in_use l n bs) i x)
-    record-replaced i new below e =
+    record_replaced i new below e =
         let xs = in_use l n bs in
         let k = length bs - length (bytes l xs) in
-        let inside : i < length xs = omega (arith, length-inUse l n bs) in
+        let inside : i < length xs = omega (arith, length_in_use l n bs) in
         let put_is : put bs (l.width * i) (l.write x) ≡ bytes l (set xs i x) ++ replicate k 0 =
         ap (λ r. put r (l.width * i) (l.write x)) h ∙ put_record xs (replicate k 0) i x inside in
-        written n k _ _ (length-set xs i x ∙ length-inUse l n bs) (e ∙ put_is)
+        written n k _ _ (length-set xs i x ∙ length_in_use l n bs) (e ∙ put_is)
 
   -- record i taken out of an area of n records, which leaves m
-  pub record-taken : (n m : ℕ) (bs : List ℕ) → Holds l n bs → n ≡ suc m → (i : ℕ) (new : List ℕ) → i < n
+  pub record_taken : (n m : ℕ) (bs : List ℕ) → Holds l n bs → n ≡ suc m → (i : ℕ) (new : List ℕ) → i < n
       → new ≡ taken_out l.width n i bs → Written l m new (removed (in_use l n bs) i)
-  record-taken n m bs h one i new below e =
+  record_taken n m bs h one i new below e =
       let xs = in_use l n bs in
       let k = length bs - length (bytes l xs) in
-      let count = length-inUse l n bs in
+      let count = length_in_use l n bs in
       let inside : i < length xs = omega arith in
       let taken_is : taken_out l.width n i bs ≡ bytes l (removed xs i) ++ replicate (l.width + k) 0 =
       ap (taken_out l.width n i) h
       ∙ ap (λ c. taken_out l.width c i (bytes l xs ++ replicate k 0)) (sym count)
-      ∙ takenOut-bytes xs (replicate k 0) i inside
+      ∙ taken_out-bytes xs (replicate k 0) i inside
       ∙ ap (λ r. bytes l (removed xs i) ++ r) (replicate-append-replicate l.width k 0) in
       written m (l.width + k) new (removed xs i) (let fewer = length-remove xs i inside in omega arith) (e ∙ taken_is)

@@ -17,36 +17,36 @@ module _ {X : Type 0} (xs : List X) (at by : ℕ) where
     enough : i + by ≤ length xs → i - at ≤ length (drop (at + by) xs)
     enough h = simp length-drop (omega arith)
 
-    pub length-shifted : i + by ≤ length xs → length (shifted xs at by i) ≡ length xs
-    length-shifted h = length-paste xs at (drop (at + by) xs) (i - at) (omega arith) (enough h)
+    pub length_shifted : i + by ≤ length xs → length (shifted xs at by i) ≡ length xs
+    length_shifted h = length-paste xs at (drop (at + by) xs) (i - at) (omega arith) (enough h)
 
-    pub take-shifted : i + by ≤ length xs
+    pub take_shifted : i + by ≤ length xs
         → take i (shifted xs at by i) ≡ take at xs ++ take (i - at) (drop (at + by) xs)
-    take-shifted h =
+    take_shifted h =
         ap (λ n. take n (shifted xs at by i)) (sym back)
         ∙ take-paste xs at (drop (at + by) xs) (i - at) (omega arith) (enough h)
 
-    pub drop-shifted : i + by ≤ length xs → drop i (shifted xs at by i) ≡ drop i xs
-    drop-shifted h =
+    pub drop_shifted : i + by ≤ length xs → drop i (shifted xs at by i) ≡ drop i xs
+    drop_shifted h =
         ap (λ n. drop n (shifted xs at by i)) (sym back)
         ∙ drop-paste xs at (drop (at + by) xs) (i - at) (omega arith) (enough h)
         ∙ ap (λ n. drop n xs) back
 
     -- what is moved down next lies where it lay
-    pub getD-shifted : (d : X) → i + by ≤ length xs → get_or (shifted xs at by i) (i + by) d ≡ get_or xs (i + by) d
-    getD-shifted d h =
-        sym (get_or-drop i (shifted xs at by i) by d) ∙ ap (λ ys. get_or ys by d) (drop-shifted h) ∙ get_or-drop i xs by d
+    pub get_or-shifted : (d : X) → i + by ≤ length xs → get_or (shifted xs at by i) (i + by) d ≡ get_or xs (i + by) d
+    get_or-shifted d h =
+        sym (get_or-drop i (shifted xs at by i) by d) ∙ ap (λ ys. get_or ys by d) (drop_shifted h) ∙ get_or-drop i xs by d
 
-    pub shifted-more : (d : X) → i + by < length xs
+    pub shifted_more : (d : X) → i + by < length xs
         → set (shifted xs at by i) i (get_or (shifted xs at by i) (i + by) d) ≡ shifted xs at by (i + 1)
-    shifted-more d h =
+    shifted_more d h =
         let s = drop (at + by) xs in
         let n = i - at in
         let short : n < length s = simp length-drop (omega arith) in
         let place : (at + by) + n ≡ i + by = omega arith in
         let one : n + 1 ≡ (i + 1) - at = omega arith in
         let value : get_or (shifted xs at by i) (i + by) d ≡ get_or s n d =
-        getD-shifted d (omega arith) ∙ ap (λ m. get_or xs m d) (sym place) ∙ sym (get_or-drop (at + by) xs n d) in
+        get_or-shifted d (omega arith) ∙ ap (λ m. get_or xs m d) (sym place) ∙ sym (get_or-drop (at + by) xs n d) in
         ap (set (shifted xs at by i) i) value
         ∙ ap (λ m. set (shifted xs at by i) m (get_or s n d)) (sym back)
         ∙ paste_more xs at s n d (omega arith) short
@@ -58,7 +58,7 @@ pub take_shifted_removed : {X : Type 0} (xs : List X) (k n : ℕ) → k ≤ n �
 take_shifted_removed xs k n from h =
     let up : n + 1 ≡ suc k + (n - k) = omega arith in
     let next : k + 1 ≡ suc k = omega arith in
-    take-shifted xs k 1 n from (omega arith)
+    take_shifted xs k 1 n from (omega arith)
     ∙ ap (λ m. take k xs ++ take (n - k) (drop m xs)) next
     ∙ ap (λ ys. take k xs ++ ys) (sym (drop-take (suc k) (n - k) xs))
     ∙ ap (λ m. take k xs ++ drop (suc k) (take m xs)) (sym up)
@@ -72,9 +72,9 @@ shifted_zeros bs at by end from h =
     let closed = shifted bs at by end in
     let width : end - at ≡ (end + by) - (at + by) = omega arith in
     let behind : drop (end + by) closed ≡ drop (end + by) bs =
-    sym (drop-drop by end closed) ∙ ap (drop by) (drop-shifted bs at by end from h) ∙ drop-drop by end bs in
+    sym (drop-drop by end closed) ∙ ap (drop by) (drop_shifted bs at by end from h) ∙ drop-drop by end bs in
     ap (λ n. take end closed ++ (replicate by 0 ++ drop (end + n) closed)) (length-replicate by 0)
-    ∙ ap (λ r. r ++ (replicate by 0 ++ drop (end + by) closed)) (take-shifted bs at by end from h)
+    ∙ ap (λ r. r ++ (replicate by 0 ++ drop (end + by) closed)) (take_shifted bs at by end from h)
     ∙ ap (λ r. (take at bs ++ take (end - at) (drop (at + by) bs)) ++ (replicate by 0 ++ r)) behind
     ∙ ap (λ n. (take at bs ++ take n (drop (at + by) bs)) ++ (replicate by 0 ++ drop (end + by) bs)) width
     ∙ append_assoc (take at bs) _ _

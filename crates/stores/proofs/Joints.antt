@@ -10,7 +10,7 @@ use Rattle.program.specs.Edits.{Does, is_open, leads, last_stage, move_into, mov
 use Rattle.program.specs.Tidy.{SilentAt, Tidy}
 use Rattle.program.proofs.Doing.{joins}
 use Rattle.program.proofs.Kept.{silent_from}
-use Rattle.program.proofs.Cuts.{into-is, out-of-is, in-and-out, join-short}
+use Rattle.program.proofs.Cuts.{into_is, out_of_is, in_and_out, join_short}
 use Rattle.stores.specs.declared.joint.End.TheVariants.{Leaves, Enters}
 use Rattle.stores.specs.declared.joint.Joint.{Joint}
 use Rattle.stores.specs.Allowed.{Ends}
@@ -34,46 +34,46 @@ joined p j = joined_by p j.stage j.into j.out_of j.whole
 -- In a tidy program, the one move that enters the last stage s, a silent one, and the one that leaves it.
 module _ (p : Prog) (s i o : ℕ) (last : length p.stages ≡ suc s) (hushed : is_open (stage_at p s).kind ≡ false)
     (enters : Only p (end_of Enters) s i) (leaves : Only p (end_of Leaves) s o) (t : Tidy p) where
-  last-is : last_stage p ≡ s
-  last-is = omega arith
+  last_is : last_stage p ≡ s
+  last_is = omega arith
 
-  last-silent : SilentAt p (last_stage p)
-  last-silent = (omega arith, silent_from _ (ap (λ x. is_open (stage_at p x).kind) last-is ∙ hushed))
+  last_silent : SilentAt p (last_stage p)
+  last_silent = (omega arith, silent_from _ (ap (λ x. is_open (stage_at p x).kind) last_is ∙ hushed))
 
-  move-into : move_into p (last_stage p) ≡ i
-  move-into = into-is p t last-silent i enters.real (enters.has ∙ sym last-is)
+  move_into-is : move_into p (last_stage p) ≡ i
+  move_into-is = into_is p t last_silent i enters.real (enters.has ∙ sym last_is)
 
-  move-out-of : move_out_of p (last_stage p) ≡ o
-  move-out-of = out-of-is p t last-silent o leaves.real (leaves.has ∙ sym last-is)
+  move_out_of-is : move_out_of p (last_stage p) ≡ o
+  move_out_of-is = out_of_is p t last_silent o leaves.real (leaves.has ∙ sym last_is)
 
-  pub tidy-apart : i ≡ o → ⊥
-  tidy-apart e = (in-and-out p t last-silent).2 (move-into ∙ e ∙ sym move-out-of)
+  pub tidy_apart : i ≡ o → ⊥
+  tidy_apart e = (in_and_out p t last_silent).2 (move_into-is ∙ e ∙ sym move_out_of-is)
 
-  pub tidy-short : (move_at p i).minutes + (move_at p o).minutes ≤ most_minutes
-  tidy-short =
-      let a = ap (λ x. (move_at p x).minutes) move-into in
-      let b = ap (λ x. (move_at p x).minutes) move-out-of in
-      let h = join-short p t last-silent in
+  pub tidy_short : (move_at p i).minutes + (move_at p o).minutes ≤ most_minutes
+  tidy_short =
+      let a = ap (λ x. (move_at p x).minutes) move_into-is in
+      let b = ap (λ x. (move_at p x).minutes) move_out_of-is in
+      let h = join_short p t last_silent in
       omega arith
 
 module _ (p : Prog) (j : Joint) (a : JoinAllowed p j) where
-  joined-withJoin : Tidy p → joined p j ≡ with_join p
-  joined-withJoin t =
-      let s = last-is p j.stage j.into j.out_of a.last a.hushed a.enters a.leaves t in
-      let i = move-into p j.stage j.into j.out_of a.last a.hushed a.enters a.leaves t in
-      let o = move-out-of p j.stage j.into j.out_of a.last a.hushed a.enters a.leaves t in
+  joined-with_join : Tidy p → joined p j ≡ with_join p
+  joined-with_join t =
+      let s = last_is p j.stage j.into j.out_of a.last a.hushed a.enters a.leaves t in
+      let i = move_into-is p j.stage j.into j.out_of a.last a.hushed a.enters a.leaves t in
+      let o = move_out_of-is p j.stage j.into j.out_of a.last a.hushed a.enters a.leaves t in
       ap (λ m. joined_by p j.stage j.into j.out_of m) a.is
       ∙ ap (λ s. joined_at p s j.into j.out_of) (sym s)
       ∙ ap (λ m. joined_at p (last_stage p) m j.out_of) (sym i)
       ∙ ap (joined_at p (last_stage p) (move_into p (last_stage p))) (sym o)
 
   -- On a tidy program, a store that is left without the joint did what the step says.
-  pub joined-does : (q : Prog) → q ≡ joined p j → Tidy p → Does (join_step p) (Ok j.stage) q
-  joined-does q e t = joins p q j.stage a.last a.hushed (e ∙ joined-withJoin t)
+  pub joined_does : (q : Prog) → q ≡ joined p j → Tidy p → Does (join_step p) (Ok j.stage) q
+  joined_does q e t = joins p q j.stage a.last a.hushed (e ∙ joined-with_join t)
 
   module _ (ends : Ends p) where
-    leaves-below : (x : ℕ) → x < length p.moves → (x ≡ j.out_of → ⊥) → (move_at p x).leaves < j.stage
-    leaves-below x l other =
+    leaves_below : (x : ℕ) → x < length p.moves → (x ≡ j.out_of → ⊥) → (move_at p x).leaves < j.stage
+    leaves_below x l other =
         let b = (ends x l).0 in
         let h = a.last in
         ⊎_elim (λ e. absurd (other (a.leaves.alone x l e))) (λ e. omega arith)
@@ -86,30 +86,30 @@ module _ (p : Prog) (j : Joint) (a : JoinAllowed p j) where
         ⊎_elim (λ e. absurd (other (a.enters.alone x l e))) (λ e. omega arith)
         (cases_eq (move_at p x).enters j.stage)
 
-    whole-fits : Fits j.stage j.whole
-    whole-fits =
+    whole_fits : Fits j.stage j.whole
+    whole_fits =
         subst (Fits j.stage) (sym a.is) (
-          leaves-below j.into a.enters.real a.apart,
+          leaves_below j.into a.enters.real a.apart,
           enters_below j.out_of a.leaves.real (λ e. a.apart (sym e)),
           a.short,
         )
 
-    replaced-fits : (x : ℕ) → x < length p.moves → (x ≡ j.out_of → ⊥)
+    replaced_fits : (x : ℕ) → x < length p.moves → (x ≡ j.out_of → ⊥)
         → Fits j.stage (get_or (set p.moves j.into j.whole) x no_move)
-    replaced-fits x l other =
+    replaced_fits x l other =
         let P : Move → Type 0 = Fits j.stage in
         let into = j.into in
         ⊎_elim
         (λ (e : x ≡ into).
         subst P (sym (ap (λ y. get_or (set p.moves into j.whole) y no_move) e
-        ∙ get_or-set_same p.moves into j.whole no_move a.enters.real)) whole-fits)
+        ∙ get_or-set_same p.moves into j.whole no_move a.enters.real)) whole_fits)
         (λ (e : x ≢ into).
         subst P (sym (get_or-set_other p.moves into x j.whole no_move e))
-        (leaves-below x l other, enters_below x l e, (ends x l).2))
+        (leaves_below x l other, enters_below x l e, (ends x l).2))
         (cases_eq x into)
 
-    joined-fits : (m : ℕ) → m < length (joined p j).moves → Fits j.stage (move_at (joined p j) m)
-    joined-fits m l =
+    joined_fits : (m : ℕ) → m < length (joined p j).moves → Fits j.stage (move_at (joined p j) m)
+    joined_fits m l =
         let P : Move → Type 0 = Fits j.stage in
         let xs = set p.moves j.into j.whole in
         let o = j.out_of in
@@ -118,14 +118,14 @@ module _ (p : Prog) (j : Joint) (a : JoinAllowed p j) where
         let fewer = length-remove xs o real in
         ⊎_elim
         (λ (below : m < o).
-        subst P (sym (get_or-remove_below xs o no_move m below real)) (replaced-fits m (omega arith) (λ e. omega arith)))
+        subst P (sym (get_or-remove_below xs o no_move m below real)) (replaced_fits m (omega arith) (λ e. omega arith)))
         (λ (above : o ≤ m).
         subst P (sym (get_or-remove_above xs o no_move m above real))
-        (replaced-fits (m + 1) (omega arith) (λ e. omega arith)))
+        (replaced_fits (m + 1) (omega arith) (λ e. omega arith)))
         (cases_lt m o)
 
-  pub ends-kept-by-join : (q : Prog) → q ≡ joined p j → Ends p → Ends q
-  ends-kept-by-join q e ends =
+  pub ends_kept_by_join : (q : Prog) → q ≡ joined p j → Ends p → Ends q
+  ends_kept_by_join q e ends =
       let h = a.last in
       let n : length (take j.stage p.stages) ≡ j.stage = length-take-le j.stage p.stages (omega arith) in
-      subst Ends (sym e) (λ m l. subst (λ s. Fits s (move_at (joined p j) m)) (sym n) (joined-fits ends m l))
+      subst Ends (sym e) (λ m l. subst (λ s. Fits s (move_at (joined p j) m)) (sym n) (joined_fits ends m l))

@@ -5,8 +5,8 @@ use Rattle.std.proofs.lemmas.Bool.{cases_eq}
 use Rattle.program.specs.declared.Move.{Move}
 use Rattle.program.specs.Meaning.{Prog, Fits, no_move, move_at, most_minutes}
 use Rattle.program.specs.Edits.{with_stage, with_marks, with_move, with_cut}
-use Rattle.program.proofs.Splits.{Split, sort, minutes-up, split_from, split-to}
-use Rattle.program.proofs.Cuts.{cut-splits}
+use Rattle.program.proofs.Splits.{Split, sort, minutes_up, split_from, split_to}
+use Rattle.program.proofs.Cuts.{cut_splits}
 use Rattle.stores.specs.declared.allowed.Pieces.{Pieces}
 use Rattle.stores.specs.Allowed.{Ends, LayAllowed, CutAllowed}
 
@@ -43,12 +43,12 @@ split_short p q S short x l =
     (λ o.
     let e = ap (λ y. (move_at q y).minutes) o.2 in
     ⊎_elim (λ i. let f = ap (λ y. (move_at q (S.up y)).minutes) i in omega arith)
-    (λ i. let f = minutes-up p q S o.0 o.1 i in omega (arith, short o.0 o.1))
+    (λ i. let f = minutes_up p q S o.0 o.1 i in omega (arith, short o.0 o.1))
     (cases_eq o.0 S.k))
     (sort p q S x l)
 
 pub ends_kept_by_cut : (p q : Prog) (k a : ℕ) (r : Pieces) → CutAllowed p k a r → q ≡ with_cut p k a → Ends p → Ends q
 ends_kept_by_cut p q k a r allowed e ends =
     let c = with_cut p k a in
-    let S = cut-splits p (λ m l. (ends m l).0) (λ m l. (ends m l).1) k a allowed.real allowed.inside in
-    subst Ends (sym e) (λ x l. (split_from p c S x l, split-to p c S x l, split_short p c S (λ m h. (ends m h).2) x l))
+    let S = cut_splits p (λ m l. (ends m l).0) (λ m l. (ends m l).1) k a allowed.real allowed.inside in
+    subst Ends (sym e) (λ x l. (split_from p c S x l, split_to p c S x l, split_short p c S (λ m h. (ends m h).2) x l))

@@ -16,7 +16,8 @@ use Rattle.stores.specs.Areas.{in_use, Holds}
 use Rattle.stores.specs.Records.{stage_layout, move_layout}
 use Rattle.stores.specs.Trays.{areas_prog, areas_room, room_for_stages, room_for_moves, SameLengths}
 use Rattle.stores.specs.Trays.{StagePut, MovePut, StageTaken, MoveTaken}
-use Rattle.stores.proofs.Areas.{Written, length-inUse, record-appended, record-replaced, record-taken}
+use Rattle.stores.specs.InUse.{length_in_use}
+use Rattle.stores.proofs.Areas.{Written, record_appended, record_replaced, record_taken}
 use Rattle.stores.proofs.Records.{stage_lawful, move_lawful}
 use Rattle.stores.proofs.Pieces.{pieces-with_cut}
 use Rattle.stores.proofs.Joints.{joined}
@@ -73,55 +74,55 @@ module _ (n k : ℕ) (a b : Areas) (p : Prog) (e : Edited n k a p) where
   moves_are = ap (λ (q : Prog). q.moves) e.is
 
   -- the area of the moves is left as it is, while that of the stages changes
-  moves-stay : (m : ℕ) (ss : List Stage) → Written stage_layout m (vec_items b.stages) ss → b.moves ≡ a.moves
+  moves_stay : (m : ℕ) (ss : List Stage) → Written stage_layout m (vec_items b.stages) ss → b.moves ≡ a.moves
       → Edited m k b (prog ss p.moves)
-  moves-stay m ss w same =
+  moves_stay m ss w same =
       record {
         is = same_prog _ _ w.reads (ap (λ v. in_use move_layout k (vec_items v)) same ∙ moves_are);
         stage_area = w.holds;
         move_area = subst (λ v. Holds move_layout k (vec_items v)) (sym same) e.move_area;
       }
 
-  stages-stay : (m : ℕ) (ms : List Move) → Written move_layout m (vec_items b.moves) ms → b.stages ≡ a.stages
+  stages_stay : (m : ℕ) (ms : List Move) → Written move_layout m (vec_items b.moves) ms → b.stages ≡ a.stages
       → Edited n m b (prog p.stages ms)
-  stages-stay m ms w same =
+  stages_stay m ms w same =
       record {
         is = same_prog _ _ (ap (λ v. in_use stage_layout n (vec_items v)) same ∙ stages_are) w.reads;
         stage_area = subst (λ v. Holds stage_layout n (vec_items v)) (sym same) e.stage_area;
         move_area = w.holds;
       }
 
-  stage-appended : (s : Stage) → StagePut a n s b → Edited (n + 1) k b (prog (p.stages ++ (s ∷ [])) p.moves)
-  stage-appended s put =
-      let w = record-appended stage_layout stage_lawful n _ e.stage_area s _ put.written in
-      edited_as (moves-stay _ _ w put.moves) (ap (λ ss. prog (ss ++ (s ∷ [])) p.moves) stages_are)
+  stage_appended : (s : Stage) → StagePut a n s b → Edited (n + 1) k b (prog (p.stages ++ (s ∷ [])) p.moves)
+  stage_appended s put =
+      let w = record_appended stage_layout stage_lawful n _ e.stage_area s _ put.written in
+      edited_as (moves_stay _ _ w put.moves) (ap (λ ss. prog (ss ++ (s ∷ [])) p.moves) stages_are)
 
-  stage-replaced : (i : ℕ) (s : Stage) → i < n → StagePut a i s b → Edited n k b (prog (set p.stages i s) p.moves)
-  stage-replaced i s below put =
-      let w = record-replaced stage_layout stage_lawful n _ e.stage_area s i _ below put.written in
-      edited_as (moves-stay _ _ w put.moves) (ap (λ ss. prog (set ss i s) p.moves) stages_are)
+  stage_replaced : (i : ℕ) (s : Stage) → i < n → StagePut a i s b → Edited n k b (prog (set p.stages i s) p.moves)
+  stage_replaced i s below put =
+      let w = record_replaced stage_layout stage_lawful n _ e.stage_area s i _ below put.written in
+      edited_as (moves_stay _ _ w put.moves) (ap (λ ss. prog (set ss i s) p.moves) stages_are)
 
-  stage-taken : (m i : ℕ) → n ≡ suc m → i < n → StageTaken a n i b
+  stage_taken : (m i : ℕ) → n ≡ suc m → i < n → StageTaken a n i b
       → Edited m k b (prog (remove p.stages i) p.moves)
-  stage-taken m i one below taken =
-      let w = record-taken stage_layout stage_lawful n m _ e.stage_area one i _ below taken.written in
-      edited_as (moves-stay _ _ w taken.moves) (ap (λ ss. prog (remove ss i) p.moves) stages_are)
+  stage_taken m i one below taken =
+      let w = record_taken stage_layout stage_lawful n m _ e.stage_area one i _ below taken.written in
+      edited_as (moves_stay _ _ w taken.moves) (ap (λ ss. prog (remove ss i) p.moves) stages_are)
 
-  move-appended : (m : Move) → MovePut a k m b → Edited n (k + 1) b (prog p.stages (p.moves ++ (m ∷ [])))
-  move-appended m put =
-      let w = record-appended move_layout move_lawful k _ e.move_area m _ put.written in
-      edited_as (stages-stay _ _ w put.stages) (ap (λ ms. prog p.stages (ms ++ (m ∷ []))) moves_are)
+  move_appended : (m : Move) → MovePut a k m b → Edited n (k + 1) b (prog p.stages (p.moves ++ (m ∷ [])))
+  move_appended m put =
+      let w = record_appended move_layout move_lawful k _ e.move_area m _ put.written in
+      edited_as (stages_stay _ _ w put.stages) (ap (λ ms. prog p.stages (ms ++ (m ∷ []))) moves_are)
 
-  move-replaced : (i : ℕ) (m : Move) → i < k → MovePut a i m b → Edited n k b (prog p.stages (set p.moves i m))
-  move-replaced i m below put =
-      let w = record-replaced move_layout move_lawful k _ e.move_area m i _ below put.written in
-      edited_as (stages-stay _ _ w put.stages) (ap (λ ms. prog p.stages (set ms i m)) moves_are)
+  move_replaced : (i : ℕ) (m : Move) → i < k → MovePut a i m b → Edited n k b (prog p.stages (set p.moves i m))
+  move_replaced i m below put =
+      let w = record_replaced move_layout move_lawful k _ e.move_area m i _ below put.written in
+      edited_as (stages_stay _ _ w put.stages) (ap (λ ms. prog p.stages (set ms i m)) moves_are)
 
   move_taken : (m i : ℕ) → k ≡ suc m → i < k → MoveTaken a k i b
       → Edited n m b (prog p.stages (remove p.moves i))
   move_taken m i one below taken =
-      let w = record-taken move_layout move_lawful k m _ e.move_area one i _ below taken.written in
-      edited_as (stages-stay _ _ w taken.stages) (ap (λ ms. prog p.stages (remove ms i)) moves_are)
+      let w = record_taken move_layout move_lawful k m _ e.move_area one i _ below taken.written in
+      edited_as (stages_stay _ _ w taken.stages) (ap (λ ms. prog p.stages (remove ms i)) moves_are)
 
 removed_last : {X : Type 0} (xs : List X) (e : ℕ) → length xs ≡ suc e → remove xs e ≡ take e xs
 removed_last xs e one = ap (λ r. take e xs ++ r) (drop_all (suc e) xs (omega arith)) ∙ append-nil (take e xs)
@@ -134,36 +135,36 @@ module _ (n k : ℕ) (a : Areas)
   start : Edited n k a (areas_prog n k a)
   start = record { is = refl; stage_area = hs; move_area = hm }
 
-  pub tray-opened : (m : ℕ) (b : Areas) → StagePut a n (record { marks = m; kind = Open }) b
+  pub tray_opened : (m : ℕ) (b : Areas) → StagePut a n (record { marks = m; kind = Open }) b
       → Edited (n + 1) k b (with_stage (areas_prog n k a) m)
-  tray-opened m b put = stage-appended n k a b p start _ put
+  tray_opened m b put = stage_appended n k a b p start _ put
 
-  pub tray-marked : (s m : ℕ) (r : Stage) (b : Areas) → s < n → r ≡ stage_at (areas_prog n k a) s
+  pub tray_marked : (s m : ℕ) (r : Stage) (b : Areas) → s < n → r ≡ stage_at (areas_prog n k a) s
       → StagePut a s (record { marks = m; kind = r.kind }) b → Edited n k b (with_marks (areas_prog n k a) s m)
-  tray-marked s m r b below found put =
-      edited_as (stage-replaced n k a b p start s _ below put)
+  tray_marked s m r b below found put =
+      edited_as (stage_replaced n k a b p start s _ below put)
       (ap (λ (v : Stage). prog (set p.stages s (record { marks = m; kind = v.kind })) p.moves) found)
 
-  pub tray-laid : (s d t : ℕ) (r : Move) (b : Areas) → r ≡ record { leaves = s; minutes = d; enters = t }
+  pub tray_laid : (s d t : ℕ) (r : Move) (b : Areas) → r ≡ record { leaves = s; minutes = d; enters = t }
       → MovePut a k r b → Edited n (k + 1) b (with_move (areas_prog n k a) s d t)
-  tray-laid s d t r b laid put =
-      edited_as (move-appended n k a b p start r put) (ap (λ (v : Move). prog p.stages (p.moves ++ (v ∷ []))) laid)
+  tray_laid s d t r b laid put =
+      edited_as (move_appended n k a b p start r put) (ap (λ (v : Move). prog p.stages (p.moves ++ (v ∷ []))) laid)
 
-  pub tray-cut : (i t : ℕ) (r : Pieces) (b c d : Areas) → CutAllowed (areas_prog n k a) i t r → i < k
+  pub tray_cut : (i t : ℕ) (r : Pieces) (b c d : Areas) → CutAllowed (areas_prog n k a) i t r → i < k
       → MovePut a i r.first b → MovePut b k r.second c → StagePut c n (record { marks = 0; kind = Silent }) d
       → Edited (n + 1) (k + 1) d (with_cut (areas_prog n k a) i t)
-  tray-cut i t r b c d allowed below put_first put_second put-stage =
-      let one = move-replaced n k a b p start i r.first below put_first in
-      let two = move-appended n k b c _ one r.second put_second in
-      let three = stage-appended n (k + 1) c d _ two _ put-stage in
+  tray_cut i t r b c d allowed below put_first put_second put-stage =
+      let one = move_replaced n k a b p start i r.first below put_first in
+      let two = move_appended n k b c _ one r.second put_second in
+      let three = stage_appended n (k + 1) c d _ two _ put-stage in
       edited_as three (pieces-with_cut p _ i t r allowed refl refl)
 
-  pub tray-joined : (j : Joint) (m : ℕ) (b c d : Areas) → n ≡ suc j.stage → k ≡ suc m → j.into < k
+  pub tray_joined : (j : Joint) (m : ℕ) (b c d : Areas) → n ≡ suc j.stage → k ≡ suc m → j.into < k
       → j.out_of < k → MovePut a j.into j.whole b → MoveTaken b k j.out_of c → StageTaken c n j.stage d
       → Edited j.stage m d (joined (areas_prog n k a) j)
-  tray-joined j m b c d last some into out put taken gone =
-      let one = move-replaced n k a b p start j.into j.whole into put in
+  tray_joined j m b c d last some into out put taken gone =
+      let one = move_replaced n k a b p start j.into j.whole into put in
       let two = move_taken n k b c _ one m j.out_of some out taken in
-      let three = stage-taken n m c d _ two j.stage j.stage last (omega arith) gone in
-      let long : length p.stages ≡ suc j.stage = length-inUse stage_layout n (vec_items a.stages) ∙ last in
+      let three = stage_taken n m c d _ two j.stage j.stage last (omega arith) gone in
+      let long : length p.stages ≡ suc j.stage = length_in_use stage_layout n (vec_items a.stages) ∙ last in
       edited_as three (ap (λ ss. prog ss (joined p j).moves) (removed_last p.stages j.stage long))

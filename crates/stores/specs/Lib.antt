@@ -3,6 +3,7 @@ pub mod MoveEnds
 pub mod Joints
 pub mod Cards
 pub mod Areas
+pub mod InUse
 pub mod Records
 pub mod Trays
 pub mod InTray

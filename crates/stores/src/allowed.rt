@@ -5,7 +5,7 @@ use program::{EditFault, Kind, MOST_MINUTES, Move, Program, Stage};
 
 // The stage of that number, where `mark` may replace its marks.
 pub(crate) fn open_stage<P: Program>(program: &P, stage: usize) -> Result<Stage, EditFault>
-    ensures { MarkTested (meaning program.now) stage result }
+    ensures { MarkTested (P.Program.meaning program.now) stage result }
 {
     if stage >= program.stage_count() {
         return Err(EditFault::NoStage);
@@ -24,7 +24,7 @@ pub(crate) fn allowed_move<P: Program>(
     minutes: u32,
     enters: usize,
 ) -> Result<Move, EditFault>
-    ensures { LayTested (meaning program.now) leaves minutes enters result }
+    ensures { LayTested (P.Program.meaning program.now) leaves minutes enters result }
 {
     let stages = program.stage_count();
     if leaves >= stages || enters >= stages {
@@ -65,7 +65,7 @@ pub(crate) fn allowed_pieces<P: Program>(
     k: usize,
     place: u32,
 ) -> Result<Pieces, EditFault>
-    ensures { CutTested (meaning program.now) k place result }
+    ensures { CutTested (P.Program.meaning program.now) k place result }
 {
     if k >= program.move_count() {
         return Err(EditFault::NoMove);

@@ -26,8 +26,8 @@ impl End {
 
 // The first move, from one on, that has a stage at an end.
 fn first_move<P: Program>(program: &P, end: End, stage: usize, from: usize) -> Option<usize>
-    ensures { MatchOption result (NoneFrom (meaning program.now) (end_of end) stage from)
-        (FirstFrom (meaning program.now) (end_of end) stage from) }
+    ensures { MatchOption result (NoneFrom (P.Program.meaning program.now) (end_of end) stage from)
+        (FirstFrom (P.Program.meaning program.now) (end_of end) stage from) }
 {
     for k in from..program.move_count() {
         if end.stage_of(program.move_at(k)) as usize == stage {
@@ -39,8 +39,8 @@ fn first_move<P: Program>(program: &P, end: End, stage: usize, from: usize) -> O
 
 // The one move that has a stage at an end; none where no move has it there, or several have.
 fn only_move<P: Program>(program: &P, end: End, stage: usize) -> Option<usize>
-    ensures { MatchOption result (JustOne (meaning program.now) (end_of end) stage → ⊥)
-        (Only (meaning program.now) (end_of end) stage) }
+    ensures { MatchOption result (JustOne (P.Program.meaning program.now) (end_of end) stage → ⊥)
+        (Only (P.Program.meaning program.now) (end_of end) stage) }
 {
     let first = first_move(program, end, stage, 0)?;
     match first_move(program, end, stage, first + 1) {
@@ -60,7 +60,7 @@ pub struct Joint {
 
 // The joint that `join` may take out. In a tidy program there is one wherever the last stage is silent.
 pub(crate) fn find_joint<P: Program>(program: &P) -> Result<Joint, EditFault>
-    ensures { JoinTested (meaning program.now) result }
+    ensures { JoinTested (P.Program.meaning program.now) result }
 {
     let stages = program.stage_count();
     if stages == 0 {

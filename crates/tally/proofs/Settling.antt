@@ -6,7 +6,7 @@ use Rattle.tctl.specs.Graph as timed
 use Rattle.tctl.specs.Graph.{size, count, move_at}
 use Rattle.tctl.specs.Checker.{at, any_move}
 use Rattle.tctl.proofs.Basics.{move_in, card, card_top, minus, minus_in, minus_keeps, minus_less}
-use Rattle.tctl.proofs.Endless.{In, in-pull}
+use Rattle.tctl.proofs.Endless.{In, in_pull}
 use Rattle.program.specs.declared.Move.{Move}
 use Rattle.program.specs.Meaning.{Prog}
 use Rattle.program.specs.Graphs.{graph, timed_move}
@@ -17,9 +17,9 @@ use Rattle.tally.specs.Walks.{Has, Leads, said, chosen, walks}
 use Rattle.tally.specs.Rounds.{rounds, Within}
 use Rattle.tally.specs.Sweeps.{Under, Fixed}
 use Rattle.tally.proofs.Laws.{reach_laws, short_laws, long_laws}
-use Rattle.tally.proofs.Rounds.{rounds-tally}
+use Rattle.tally.proofs.Rounds.{rounds_tally}
 use Rattle.tally.proofs.Walked.{all_walks_lem}
-use Rattle.tally.proofs.Sweeps.{has_within, under_same, under-trans, under-both, under-chosen, chosen-under}
+use Rattle.tally.proofs.Sweeps.{has_within, under_same, under_trans, under_both, under_chosen, chosen_under}
 
 -- A walk under another that has at most k moves, from the same stage.
 record WithinMoves {A : Type 0} (K : Algebra A) (moves : List Move) (pass goals : ℕ → Bool) (k s : ℕ)
@@ -35,19 +35,19 @@ module _ {A : Type 0} (K : Algebra A) (laws : Laws K) (moves : List Move) (pass 
       → WithinMoves K moves pass goals k s w)
       → (s : ℕ) → rounds K moves pass goals k s ≡ rounds K moves pass goals (suc k) s
   settles enough s =
-      sym (rounds-tally K laws moves pass goals k s)
-      ∙ under-both K laws (chosen K now) (chosen K next)
-      (chosen-under K laws (chosen K next) now
+      sym (rounds_tally K laws moves pass goals k s)
+      ∙ under_both K laws (chosen K now) (chosen K next)
+      (chosen_under K laws (chosen K next) now
       (λ w h.
       let o = (all_walks_lem moves pass goals k s w).0 h in
-      under-chosen K laws next w ((all_walks_lem moves pass goals (suc k) s w).1 (o.0, omega (arith, o.1)))))
-      (chosen-under K laws (chosen K now) next
+      under_chosen K laws next w ((all_walks_lem moves pass goals (suc k) s w).1 (o.0, omega (arith, o.1)))))
+      (chosen_under K laws (chosen K now) next
       (λ w h.
       let o = (all_walks_lem moves pass goals (suc k) s w).0 h in
       let v = enough s w o.0 o.1 in
-      under-trans K laws (said K w) (said K v.way) (chosen K now) v.more
-      (under-chosen K laws now v.way ((all_walks_lem moves pass goals k s v.way).1 (v.leads, v.few)))))
-      ∙ rounds-tally K laws moves pass goals (suc k) s
+      under_trans K laws (said K w) (said K v.way) (chosen K now) v.more
+      (under_chosen K laws now v.way ((all_walks_lem moves pass goals k s v.way).1 (v.leads, v.few)))))
+      ∙ rounds_tally K laws moves pass goals (suc k) s
     where
       now : List (List Move)
       now = walks moves pass goals k s
@@ -105,11 +105,11 @@ module _ (n : ℕ) (moves : List Move) (within : Within n moves) (goals : ℕ �
   fewer pass s m w h =
       minus_less s pass n (subst (λ x. x < n) h.1 (has_within n moves within m h.0).0) h.2
 
-  shortens-suc : (c : ℕ) → Shortens c → Shortens (suc c)
-  shortens-suc c ih pass k s [] lw l h = record { way = []; leads = h; few = omega arith; soon = omega arith }
-  shortens-suc c ih pass zero s (m ∷ w) lw l h = absurd (not-suc-le-zero lw)
-  shortens-suc c ih pass (suc k) s (m ∷ w) lw l h =
-      go (part pass s m.enters w h.3) (shortens-suc c ih pass k s)
+  shortens_suc : (c : ℕ) → Shortens c → Shortens (suc c)
+  shortens_suc c ih pass k s [] lw l h = record { way = []; leads = h; few = omega arith; soon = omega arith }
+  shortens_suc c ih pass zero s (m ∷ w) lw l h = absurd (not-suc-le-zero lw)
+  shortens_suc c ih pass (suc k) s (m ∷ w) lw l h =
+      go (part pass s m.enters w h.3) (shortens_suc c ih pass k s)
     where
       go : Leads moves (minus s pass) goals m.enters w ⊎ Short pass s (length w) (minutes w)
           → ((v : List Move) → length v ≤ k → card pass n ≤ suc c → Leads moves pass goals s v
@@ -131,10 +131,10 @@ module _ (n : ℕ) (moves : List Move) (within : Within n moves) (goals : ℕ �
   shortens : (c : ℕ) → Shortens c
   shortens zero pass k s [] lw l h = record { way = []; leads = h; few = omega arith; soon = omega arith }
   shortens zero pass k s (m ∷ w) lw l h = let less = fewer pass s m w h in absurd (omega arith)
-  shortens (suc c) pass k s w lw l h = shortens-suc c (shortens c) pass k s w lw l h
+  shortens (suc c) pass k s w lw l h = shortens_suc c (shortens c) pass k s w lw l h
 
-  short-walk : (pass : ℕ → Bool) (s : ℕ) (w : List Move) → Leads moves pass goals s w → Short pass s n (minutes w)
-  short-walk pass s w h = shortens n pass (length w) s w (omega arith) (card_top pass n) h
+  short_walk : (pass : ℕ → Bool) (s : ℕ) (w : List Move) → Leads moves pass goals s w → Short pass s n (minutes w)
+  short_walk pass s w h = shortens n pass (length w) s w (omega arith) (card_top pass n) h
 
 -- What is said of one walk
 
@@ -148,11 +148,11 @@ said_short (m ∷ w) =
     ap (λ x. shortest_algebra.before m.minutes x) (said_short w) ∙ ap short.After (omega arith)
 
 module _ (n : ℕ) (moves : List Move) (within : Within n moves) (pass goals : ℕ → Bool) where
-  pub reach-settles : Fixed reach_algebra n moves pass goals (rounds reach_algebra moves pass goals n)
-  reach-settles s l =
+  pub reach_settles : Fixed reach_algebra n moves pass goals (rounds reach_algebra moves pass goals n)
+  reach_settles s l =
       settles reach_algebra reach_laws moves pass goals n
       (λ s w h few.
-      let v = short-walk n moves within goals pass s w h in
+      let v = short_walk n moves within goals pass s w h in
       record {
         way = v.way;
         leads = v.leads;
@@ -162,11 +162,11 @@ module _ (n : ℕ) (moves : List Move) (within : Within n moves) (pass goals : �
       })
       s
 
-  pub short-settles : Fixed shortest_algebra n moves pass goals (rounds shortest_algebra moves pass goals n)
-  short-settles s l =
+  pub short_settles : Fixed shortest_algebra n moves pass goals (rounds shortest_algebra moves pass goals n)
+  short_settles s l =
       settles shortest_algebra short_laws moves pass goals n
       (λ s w h few.
-      let v = short-walk n moves within goals pass s w h in
+      let v = short_walk n moves within goals pass s w h in
       record { way = v.way; leads = v.leads; few = v.few; more = sooner w v.way v.soon })
       s
     where
@@ -177,9 +177,9 @@ module _ (n : ℕ) (moves : List Move) (within : Within n moves) (pass goals : �
           ∙ ap (shortest_algebra.choice (short.After (min most_sum (minutes w)))) (said_short v)
           ∙ ap short.After (omega arith) ∙ sym (said_short v)
 
-  pub long-settles : ((s : ℕ) (w : List Move) → Leads moves pass goals s w → length w ≤ n)
+  pub long_settles : ((s : ℕ) (w : List Move) → Leads moves pass goals s w → length w ≤ n)
       → Fixed longest_algebra n moves pass goals (rounds longest_algebra moves pass goals n)
-  long-settles none-longer s l =
+  long_settles none-longer s l =
       settles longest_algebra long_laws moves pass goals n
       (λ s w h few.
       record {
@@ -201,16 +201,16 @@ has_at (x ∷ moves) m (inr h) = let o = has_at moves m h in (suc o.0, omega (ar
 module _ (p : Prog) (from : (k : ℕ) → k < count (graph p) → (move_at (graph p) k).leaves < size (graph p))
     (set : List Bool) (pass goals : ℕ → Bool)
     (inside : (s : ℕ) (m : Move) (w : List Move) → Leads p.moves pass goals s (m ∷ w) → T (at set s)) where
-  few-from : (i s : ℕ) (w : List Move) → (In (graph p) from any_move set i s → ⊥) → Leads p.moves pass goals s w
+  few_from : (i s : ℕ) (w : List Move) → (In (graph p) from any_move set i s → ⊥) → Leads p.moves pass goals s w
       → length w ≤ i
-  few-from i s [] d h = omega arith
-  few-from zero s (m ∷ w) d h = absurd (d (inside s m w h))
-  few-from (suc i) s (m ∷ w) d h =
+  few_from i s [] d h = omega arith
+  few_from zero s (m ∷ w) d h = absurd (d (inside s m w h))
+  few_from (suc i) s (m ∷ w) d h =
       let o = has_at p.moves m h.0 in
       let fewer =
-      few-from i m.enters w
+      few_from i m.enters w
       (λ t. d
-      (in-pull (graph p) from any_move set i s (inside s m w h) (
+      (in_pull (graph p) from any_move set i s (inside s m w h) (
         o.0,
         o.1,
         ap (λ (x : timed.Move). x.leaves) o.2 ∙ h.1,
@@ -221,7 +221,7 @@ module _ (p : Prog) (from : (k : ℕ) → k < count (graph p) → (move_at (grap
       omega arith
 
   -- A walk outside the part that need not be left has at most as many moves as turns were made.
-  pub outside-few : (i : ℕ) → ((s : ℕ) → T (pass s) → In (graph p) from any_move set i s → ⊥)
+  pub outside_few : (i : ℕ) → ((s : ℕ) → T (pass s) → In (graph p) from any_move set i s → ⊥)
       → (s : ℕ) (w : List Move) → Leads p.moves pass goals s w → length w ≤ i
-  outside-few i out s [] h = omega arith
-  outside-few i out s (m ∷ w) h = few-from i s (m ∷ w) (out s h.2) h
+  outside_few i out s [] h = omega arith
+  outside_few i out s (m ∷ w) h = few_from i s (m ∷ w) (out s h.2) h

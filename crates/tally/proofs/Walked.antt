@@ -33,12 +33,12 @@ module _ (further : ℕ → List (List Move)) (s : ℕ) where
   abbrev Goes : List Move → List Move → Type 0
   Goes ms w = (m : Move) × (v : List Move) × Has ms m × (m.leaves ≡ s) × (m ∷ v ≡ w) × Has (further m.enters) v
 
-  goes-more : (m : Move) (ms : List Move) (w : List Move) → Goes ms w → Goes (m ∷ ms) w
-  goes-more m ms w o = (o.0, o.1, inr o.2, o.3, o.4, o.5)
+  goes_more : (m : Move) (ms : List Move) (w : List Move) → Goes ms w → Goes (m ∷ ms) w
+  goes_more m ms w o = (o.0, o.1, inr o.2, o.3, o.4, o.5)
 
-  onward-e : (ms : List Move) (w : List Move) → Has (onward further ms s) w → Goes ms w
-  onward-e [] w h = absurd h
-  onward-e (m ∷ ms) w h = go (eqb m.leaves s) refl h (onward-e ms w)
+  onward_e : (ms : List Move) (w : List Move) → Has (onward further ms s) w → Goes ms w
+  onward_e [] w h = absurd h
+  onward_e (m ∷ ms) w h = go (eqb m.leaves s) refl h (onward_e ms w)
     where
       go : (b : Bool) → b ≡ eqb m.leaves s
           → Has (cond b (map (λ v. m ∷ v) (further m.enters) ++ onward further ms s) (onward further ms s)) w
@@ -54,14 +54,14 @@ module _ (further : ℕ → List (List Move)) (s : ℕ) where
             o.1,
             o.2,
           ))
-          (λ b. goes-more m ms w (ih b))
+          (λ b. goes_more m ms w (ih b))
           (join_e (map (λ v. m ∷ v) (further m.enters)) (onward further ms s) w h)
-      go false e h ih = goes-more m ms w (ih h)
+      go false e h ih = goes_more m ms w (ih h)
 
-  onward-i : (ms : List Move) (m : Move) (v : List Move) → Has ms m → m.leaves ≡ s → Has (further m.enters) v
+  onward_i : (ms : List Move) (m : Move) (v : List Move) → Has ms m → m.leaves ≡ s → Has (further m.enters) v
       → Has (onward further ms s) (m ∷ v)
-  onward-i [] m v h e f = absurd h
-  onward-i (x ∷ ms) m v h e f = go (eqb x.leaves s) refl h (λ k. onward-i ms m v k e f)
+  onward_i [] m v h e f = absurd h
+  onward_i (x ∷ ms) m v h e f = go (eqb x.leaves s) refl h (λ k. onward_i ms m v k e f)
     where
       go : (b : Bool) → b ≡ eqb x.leaves s → (x ≡ m) ⊎ Has ms m → (Has ms m → Has (onward further ms s) (m ∷ v))
           → Has (cond b (map (λ y. x ∷ y) (further x.enters) ++ onward further ms s) (onward further ms s)) (m ∷ v)
@@ -99,16 +99,16 @@ module _ (moves : List Move) (pass goals : ℕ → Bool) where
   abbrev Good : ℕ → ℕ → List Move → Type 0
   Good k s w = Leads moves pass goals s w × (length w ≤ k)
 
-  at-goal : (k s : ℕ) (w : List Move) → Has (cond (goals s) ([] ∷ []) []) w → Good k s w
-  at-goal k s w h = let o = goal_e (goals s) w h in subst (Good k s) o.1 (o.0, omega arith)
+  at_goal : (k s : ℕ) (w : List Move) → Has (cond (goals s) ([] ∷ []) []) w → Good k s w
+  at_goal k s w h = let o = goal_e (goals s) w h in subst (Good k s) o.1 (o.0, omega arith)
 
   sound : (k s : ℕ) (w : List Move) → Has (W k s) w → Good k s w
-  sound zero s w h = at-goal 0 s w h
+  sound zero s w h = at_goal 0 s w h
   sound (suc k) s w h =
-      ⊎_elim (at-goal (suc k) s w)
+      ⊎_elim (at_goal (suc k) s w)
       (λ b.
       let o = pass_e (pass s) (onward (W k) moves s) w b in
-      let g = onward-e (W k) s moves w o.1 in
+      let g = onward_e (W k) s moves w o.1 in
       let r = sound k g.0.enters g.1 g.5 in
       subst (Good (suc k) s) g.4 ((g.2, g.3, o.0, r.0), omega (arith, r.1)))
       (join_e (cond (goals s) ([] ∷ []) []) (cond (pass s) (onward (W k) moves s) []) w h)
@@ -121,7 +121,7 @@ module _ (moves : List Move) (pass goals : ℕ → Bool) where
   full (suc k) s (m ∷ w) g =
       join_r (cond (goals s) ([] ∷ []) []) (cond (pass s) (onward (W k) moves s) []) (m ∷ w)
       (pass_i (pass s) (onward (W k) moves s) (m ∷ w) g.0.2
-      (onward-i (W k) s moves m w g.0.0 g.0.1 (full k m.enters w (g.0.3, omega (arith, g.1)))))
+      (onward_i (W k) s moves m w g.0.0 g.0.1 (full k m.enters w (g.0.3, omega (arith, g.1)))))
 
 pub all_walks_lem : AllWalks
 all_walks_lem moves pass goals k s w = (sound moves pass goals k s w, full moves pass goals k s w)

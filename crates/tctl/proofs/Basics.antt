@@ -3,7 +3,7 @@ use Rattle.std.proofs.Common.{◌≡◌, ℕ, zero, suc, ◌+◌, ◌<◌, ◌�
 use lib.Dec.{eqb_refl}
 use Rattle.std.proofs.lemmas.Bool.{cases_eq}
 use Rattle.tctl.specs.Graph.{Move}
-use Rattle.tctl.specs.Checker.{table, tabFrom, ◌and◌, ◌or◌, non, at}
+use Rattle.tctl.specs.Checker.{table, tab_from, ◌and◌, ◌or◌, non, at}
 
 -- Tests
 
@@ -45,7 +45,7 @@ non_i false h = tt
 
 -- Tables
 
-tab_at : {A : Type 0} (f : ℕ → A) (d : A) (n i s : ℕ) → s < n → get_or (tabFrom f n i) s d ≡ f (i + s)
+tab_at : {A : Type 0} (f : ℕ → A) (d : A) (n i s : ℕ) → s < n → get_or (tab_from f n i) s d ≡ f (i + s)
 tab_at f d zero i s h = absurd (not-suc-le-zero h)
 tab_at f d (suc n) i zero h = ap f (sym (add-zero i))
 tab_at f d (suc n) i (suc s) h = tab_at f d n (suc i) s (le_of_suc-le-suc h) ∙ ap f (suc-add i s ∙ sym (add-suc i s))
@@ -53,7 +53,7 @@ tab_at f d (suc n) i (suc s) h = tab_at f d n (suc i) s (le_of_suc-le-suc h) ∙
 pub table_at : {A : Type 0} (f : ℕ → A) (d : A) (n s : ℕ) → s < n → get_or (table n f) s d ≡ f s
 table_at f d n s h = tab_at f d n 0 s h ∙ ap f (zero-add s)
 
-tab_past : (f : ℕ → Bool) (n i s : ℕ) → T (get_or (tabFrom f n i) s false) → s < n
+tab_past : (f : ℕ → Bool) (n i s : ℕ) → T (get_or (tab_from f n i) s false) → s < n
 tab_past f zero i s t = absurd t
 tab_past f (suc n) i zero t = omega arith
 tab_past f (suc n) i (suc s) t = let h = tab_past f n (suc i) s t in omega arith

@@ -1,7 +1,7 @@
 -- A tally with a cap.
 use Rattle.std.proofs.Common.{◌≡◌, ℕ, zero, suc, Bool, true, false, cond, eqb, List, [], ◌∷◌, get_or, sym, refl, ap, ◌∙◌, arith}
 use Rattle.tctl.specs.Graph.{Move, size}
-use Rattle.tctl.specs.Checker.{Entry, none, sum, Kind, shortest, longest, choice, after, over, begin, tally, tabFrom}
+use Rattle.tctl.specs.Checker.{Entry, none, sum, Kind, shortest, longest, choice, after, over, begin, tally, tab_from}
 use Rattle.tctl.specs.Checker.{at, after_cap, over_cap, tally_cap, capped}
 use Rattle.tctl.specs.Theorems.{CapCuts}
 
@@ -23,7 +23,7 @@ begin_cap top goals s = go (at goals s)
     go false = refl
 
 tab_cap : (top : ℕ) (f g : ℕ → Entry) → ((s : ℕ) → f s ≡ capped top (g s)) → (n i s : ℕ)
-    → get_or (tabFrom f n i) s none ≡ capped top (get_or (tabFrom g n i) s none)
+    → get_or (tab_from f n i) s none ≡ capped top (get_or (tab_from g n i) s none)
 tab_cap top f g h zero i s = refl
 tab_cap top f g h (suc n) i zero = h i
 tab_cap top f g h (suc n) i (suc s) = tab_cap top f g h n (suc i) s

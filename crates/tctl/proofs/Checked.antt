@@ -8,18 +8,18 @@ use Rattle.tctl.specs.Checker.{where_holds, at, open?, ◌and◌, ◌or◌, non,
 use Rattle.tctl.specs.Theorems.{CheckerRight}
 use Rattle.tctl.proofs.Basics.{and_l, and_r, and_i, or_e, or_l, or_r, non_e, non_i, table_e, table_i}
 use Rattle.tctl.proofs.Common.{Tells, open_fits}
-use Rattle.tctl.proofs.Some.{some-most, some-least}
-use Rattle.tctl.proofs.Each.{each-most, each-least}
+use Rattle.tctl.proofs.Some.{some_most, some_least}
+use Rattle.tctl.proofs.Each.{each_most, each_least}
 
 some_b : (p : Graph) (ok : Sound p) (F G : List Bool) (SF SG : ℕ → Type 0) → Tells p F SF → Tells p G SG → (b : Bound)
     → Tells p (some_list p F b G) (λ s. Open p s × ((r : Run p s) × Until p SF b SG r.way))
-some_b p ok F G SF SG tF tG (most c) = some-most p ok F G SF SG tF tG c
-some_b p ok F G SF SG tF tG (least c) = some-least p ok F G SF SG tF tG c
+some_b p ok F G SF SG tF tG (most c) = some_most p ok F G SF SG tF tG c
+some_b p ok F G SF SG tF tG (least c) = some_least p ok F G SF SG tF tG c
 
 each_b : (p : Graph) (ok : Sound p) (F G : List Bool) (SF SG : ℕ → Type 0) → Tells p F SF → Tells p G SG → (b : Bound)
     → Tells p (each_list p F b G) (λ s. Open p s × ((r : Run p s) → Until p SF b SG r.way))
-each_b p ok F G SF SG tF tG (most c) = each-most p ok F G SF SG tF tG c
-each_b p ok F G SF SG tF tG (least c) = each-least p ok F G SF SG tF tG c
+each_b p ok F G SF SG tF tG (most c) = each_most p ok F G SF SG tF tG c
+each_b p ok F G SF SG tF tG (least c) = each_least p ok F G SF SG tF tG c
 
 pub tells : (p : Graph) → Sound p → (f : Rule) → Tells p (where_holds p f) (λ s. Holds p f s)
 tells p ok one =

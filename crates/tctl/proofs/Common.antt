@@ -17,7 +17,7 @@ use Rattle.tctl.proofs.Sums.{sum_mono}
 use Rattle.tctl.proofs.Reach.{Reach, widen}
 use Rattle.tctl.proofs.Tally.{Shows, Closed}
 use Rattle.tctl.proofs.Runs.{rest, next}
-use Rattle.tctl.proofs.Endless.{In, in-before, in-pull}
+use Rattle.tctl.proofs.Endless.{In, in_before, in_pull}
 
 -- The list has the stages at which S holds, which are open.
 pub record Tells (p : Graph) (F : List Bool) (S : ℕ → Type 0) : Type 0 where
@@ -98,8 +98,8 @@ avoid p ok set fits G (suc k) s Q d (inr w) =
       and_i (at set s) (non (at (endless p any_move set (size p)) s)) w.3
           (non_i (at (endless p any_move set (size p)) s) d),
       avoid p ok set fits G k (move_at p w.0).enters _
-          (λ t. d (in-before p ok.from any_move set (size p) s
-          (in-pull p ok.from any_move set (size p) s w.3 (w.0, w.1, w.2, tt, t)))) w.4,
+          (λ t. d (in_before p ok.from any_move set (size p) s
+          (in_pull p ok.from any_move set (size p) s w.3 (w.0, w.1, w.2, tt, t)))) w.4,
     )
 
 pub most_closed : (c : ℕ) → Closed shortest (λ x. x ≤ c)

@@ -12,7 +12,7 @@ use Rattle.tctl.proofs.Reach.{Reach, widen, within_size}
 use Rattle.tctl.proofs.Tally.{tally_e, tally_i}
 use Rattle.tctl.proofs.Runs.{run_reach, reach_run, some_run, rest, next, before}
 use Rattle.tctl.proofs.Some.{pass_i}
-use Rattle.tctl.proofs.Endless.{in-set, stay, rank, escape, late, into_e, into_i}
+use Rattle.tctl.proofs.Endless.{in_set, stay, rank, escape, late, into_e, into_i}
 use Rattle.tctl.proofs.Common.{Tells, open_fits, run_fits, start_fits, some_e, some_i, most_e, most_i, least_e, least_i}
 use Rattle.tctl.proofs.Common.{time_mono, avoid, most_closed, least_closed, reach_some}
 
@@ -97,8 +97,8 @@ module _ (p : Graph) (ok : Sound p) (F G : List Bool) (SF SG : ℕ → Type 0) (
   abbrev Fails : Bound → ℕ → Type 0
   Fails b s = (r : Run p s) × (Until p SF b SG r.way → ⊥)
 
-  pub by-broken : (b : Bound) (s : ℕ) → s < n → T (some? (broken s)) → Fails b s
-  by-broken b s l t =
+  pub by_broken : (b : Bound) (s : ℕ) → s < n → T (some? (broken s)) → Fails b s
+  by_broken b s l t =
       let o = reach_run p (some_run p ok) ok (at N) (at B) n s (λ x. Unit {0}) l
       (tally_e p ok shortest N B n s (λ x. Unit {0}) l (some_e (broken s) t)) in
       let st = stage_on p o.0.way in (
@@ -113,13 +113,13 @@ module _ (p : Graph) (ok : Sound p) (F G : List Bool) (SF SG : ℕ → Type 0) (
             (cases_lt u.place o.1.place),
       )
 
-  pub by-X : (b : Bound) (s : ℕ) → T (at X s) → Fails b s
-  by-X b s t =
+  pub by_X : (b : Bound) (s : ℕ) → T (at X s) → Fails b s
+  by_X b s t =
       let o = stay p ok.from any_move N N-fits s t in (
         o.0,
         λ u.
             N-e (stage_on p o.0.way u.place)
-            (in-set p ok.from any_move N n (stage_on p o.0.way u.place) (o.1 u.place).0) u.goal,
+            (in_set p ok.from any_move N n (stage_on p o.0.way u.place) (o.1 u.place).0) u.goal,
       )
 
   abbrev Each : Bound → ℕ → Type 0
@@ -133,8 +133,8 @@ module _ (p : Graph) (ok : Sound p) (F G : List Bool) (SF SG : ℕ → Type 0) (
   abbrev anywhere : List Bool
   anywhere = table n (λ s. true)
 
-  pub each-most : (c : ℕ) → Tells p (each_list p F (most c) G) (Each (most c))
-  each-most c = record { sound = sound; full = full; opens = λ s t. t.0 }
+  pub each_most : (c : ℕ) → Tells p (each_list p F (most c) G) (Each (most c))
+  each_most c = record { sound = sound; full = full; opens = λ s t. t.0 }
     where
       e : ℕ → Entry
       e s = get_or (tally p longest outside anywhere n) s none
@@ -145,9 +145,9 @@ module _ (p : Graph) (ok : Sound p) (F G : List Bool) (SF SG : ℕ → Type 0) (
       test : ℕ → Bool
       test s = open? p s and non (fail s)
 
-      in-time : (s : ℕ) (r : Run p s) → (T (at X s) → ⊥) → (T (least? (suc c) (e s)) → ⊥) → (j : ℕ)
+      in_time : (s : ℕ) (r : Run p s) → (T (at X s) → ⊥) → (T (least? (suc c) (e s)) → ⊥) → (j : ℕ)
           → ((x : ℕ) → x < j → T (at N (stage_on p r.way x))) → time_on p j r.way ≤ c
-      in-time s r nx nl j h =
+      in_time s r nx nl j h =
           ⊎_elim
           (λ late'.
           absurd
@@ -182,13 +182,13 @@ module _ (p : Graph) (ok : Sound p) (F G : List Bool) (SF SG : ℕ → Type 0) (
                   place = o.0;
                   shown = tG.opens (stage_on p r.way o.0) o.1;
                   goal = o.1;
-                  timely = in-time s r nx nl o.0 o.2;
+                  timely = in_time s r nx nl o.0 o.2;
                   before = o.3;
                 },
           )
 
-      by-long : (s : ℕ) → s < n → T (least? (suc c) (e s)) → Fails (most c) s
-      by-long s l t =
+      by_long : (s : ℕ) → s < n → T (least? (suc c) (e s)) → Fails (most c) s
+      by_long s l t =
           let o = reach_run p (some_run p ok) ok (at outside) (at anywhere) n s (λ x. suc c ≤ x) l
           (tally_e p ok longest outside anywhere n s (λ x. suc c ≤ x) l (least_e (suc c) (e s) t)) in
           let st = stage_on p o.0.way in (
@@ -212,8 +212,8 @@ module _ (p : Graph) (ok : Sound p) (F G : List Bool) (SF SG : ℕ → Type 0) (
           (non_i (fail s)
           (λ u.
           no'
-          (⊎_elim (by-broken (most c) s l)
-          (λ v. ⊎_elim (by-X (most c) s) (by-long s l) (or_e (at X s) (least? (suc c) (e s)) v))
+          (⊎_elim (by_broken (most c) s l)
+          (λ v. ⊎_elim (by_X (most c) s) (by_long s l) (or_e (at X s) (least? (suc c) (e s)) v))
           (or_e (some? (broken s)) (at X s or least? (suc c) (e s)) u)))))
 
   -- A[f U>=c g]
@@ -224,7 +224,7 @@ module _ (p : Graph) (ok : Sound p) (F G : List Bool) (SF SG : ℕ → Type 0) (
   V-fails : (b : Bound) (s : ℕ) → T (at V s) → Fails b s
   V-fails b s t =
       let h = table_e (λ x. some? (broken x) or at X x) n s t in
-      ⊎_elim (by-broken b s h.0) (by-X b s) (or_e (some? (broken s)) (at X s) h.1)
+      ⊎_elim (by_broken b s h.0) (by_X b s) (or_e (some? (broken s)) (at X s) h.1)
 
   V-out : (s : ℕ) (r : Run p s) → (T (at V s) → ⊥) → Until p SF (least 0) SG r.way
   V-out s r d =
@@ -281,15 +281,15 @@ module _ (p : Graph) (ok : Sound p) (F G : List Bool) (SF SG : ℕ → Type 0) (
         before = λ j v. b (suc j) (omega arith);
       }
 
-  trap-f : (s : ℕ) → Open p s → (T (at F s) → ⊥) → T (at traps s)
-  trap-f s o d =
+  trap_f : (s : ℕ) → Open p s → (T (at F s) → ⊥) → T (at traps s)
+  trap_f s o d =
       table_i (λ x. (open? p x and non (at F x)) or (at P x and into any_move p.moves V x)) n s (open_fits p s o)
       (or_l (open? p s and non (at F s)) (at P s and into any_move p.moves V s)
       (and_i (open? p s) (non (at F s)) o (non_i (at F s) d)))
 
-  trap-V : (s m : ℕ) → m < count p → (move_at p m).leaves ≡ s → T (at P s) → T (at V (move_at p m).enters)
+  trap_V : (s m : ℕ) → m < count p → (move_at p m).leaves ≡ s → T (at P s) → T (at V (move_at p m).enters)
       → T (at traps s)
-  trap-V s m l e t v =
+  trap_V s m l e t v =
       table_i (λ x. (open? p x and non (at F x)) or (at P x and into any_move p.moves V x)) n s
       (subst (λ x. x < n) e (ok.from m l))
       (or_r (open? p s and non (at F s)) (at P s and into any_move p.moves V s)
@@ -299,7 +299,7 @@ module _ (p : Graph) (ok : Sound p) (F G : List Bool) (SF SG : ℕ → Type 0) (
   trapped : (c s : ℕ) → T (at traps s) → 0 < c → Fails (least c) s
   trapped c s t pos =
       let h = table_e (λ x. (open? p x and non (at F x)) or (at P x and into any_move p.moves V x)) n s t in
-      ⊎_elim (at_f h.0) at-V (or_e (open? p s and non (at F s)) (at P s and into any_move p.moves V s) h.1)
+      ⊎_elim (at_f h.0) at_V (or_e (open? p s and non (at F s)) (at P s and into any_move p.moves V s) h.1)
     where
       at_f : s < n → T (open? p s and non (at F s)) → Fails (least c) s
       at_f l u =
@@ -316,8 +316,8 @@ module _ (p : Graph) (ok : Sound p) (F G : List Bool) (SF SG : ℕ → Type 0) (
           later-than zero t = absurd (omega arith)
           later-than (suc i) t = omega arith
 
-      at-V : T (at P s and into any_move p.moves V s) → Fails (least c) s
-      at-V u =
+      at_V : T (at P s and into any_move p.moves V s) → Fails (least c) s
+      at_V u =
           let o = into_e any_move V s p.moves (and_r (at P s) (into any_move p.moves V s) u) in
           let f = V-fails (least 0) (move_at p o.0).enters o.4 in (
             before p o.0 s o.1 o.2 f.0,
@@ -374,9 +374,9 @@ module _ (p : Graph) (ok : Sound p) (F G : List Bool) (SF SG : ℕ → Type 0) (
           }
       go (inl pos) ih =
           let f : Open p s → SF s =
-          λ o. ⊎_elim (λ a. tF.sound s a) (λ b. absurd (nt 0 (trap-f s o b, pos))) (passes (at F s)) in
+          λ o. ⊎_elim (λ a. tF.sound s a) (λ b. absurd (nt 0 (trap_f s o b, pos))) (passes (at F s)) in
           let in_p : T (at P s) = pass_i p ok F G SF SG tF tG s (start_fits p ok s r) f in
-          let nv' : T (at V t) → ⊥ = λ v. nt 0 (trap-V s (r.way 0) (r.real 0) r.starts in_p v, pos) in
+          let nv' : T (at V t) → ⊥ = λ v. nt 0 (trap_V s (r.way 0) (r.real 0) r.starts in_p v, pos) in
           ⊎_elim
           (λ (less : d < c). later c (c - d) s r f (omega arith)
           (ih nv'
@@ -391,8 +391,8 @@ module _ (p : Graph) (ok : Sound p) (F G : List Bool) (SF SG : ℕ → Type 0) (
           (λ (more : c ≤ d). later c 0 s r f (omega arith) (V-out t (rest p s r) nv'))
           (cases_lt d c)
 
-  pub each-least : (c : ℕ) → Tells p (each_list p F (least c) G) (Each (least c))
-  each-least c = record { sound = sound; full = full; opens = λ s t. t.0 }
+  pub each_least : (c : ℕ) → Tells p (each_list p F (least c) G) (Each (least c))
+  each_least c = record { sound = sound; full = full; opens = λ s t. t.0 }
     where
       e : ℕ → Entry
       e s = get_or (tally p shortest P traps n) s none

@@ -8,7 +8,7 @@ use Rattle.tctl.specs.Rules.{Rule, one, letter, not, both, either, some_run, eac
 use Rattle.tctl.specs.Holds.{Meets, Until, Holds}
 use Rattle.tctl.specs.Refine.{Refines, Made, span}
 use Rattle.tctl.specs.Theorems.{RefinementKeeps, MakingKeeps}
-use Rattle.tctl.proofs.Sums.{sum_more, sum-join, sum_same}
+use Rattle.tctl.proofs.Sums.{sum_more, sum_join, sum_same}
 use Rattle.tctl.proofs.Runs.{next, drop_run}
 
 abbrev minutes_of : Move → ℕ
@@ -42,11 +42,11 @@ module _ (p q : Graph) (ok : Ends p) (R : Made p q) where
   abbrev Follows : (ℕ → ℕ) → (ℕ → ℕ) → Type 0
   Follows w v = (i k : ℕ) → k < L (w i) → v (pos w i + k) ≡ c (w i) k
 
-  pos-mono : (w : ℕ → ℕ) (i j : ℕ) → i ≤ j → pos w i ≤ pos w j
-  pos-mono w i zero l = subst (λ x. pos w x ≤ 0) (let z : 0 ≡ i = omega arith in z) (omega arith)
-  pos-mono w i (suc j) l =
+  pos_mono : (w : ℕ → ℕ) (i j : ℕ) → i ≤ j → pos w i ≤ pos w j
+  pos_mono w i zero l = subst (λ x. pos w x ≤ 0) (let z : 0 ≡ i = omega arith in z) (omega arith)
+  pos_mono w i (suc j) l =
       ⊎_elim (λ e. subst (λ x. pos w i ≤ pos w x) e (omega arith))
-      (λ d. let h = pos-mono w i j (omega arith) in omega arith)
+      (λ d. let h = pos_mono w i j (omega arith) in omega arith)
       (cases_eq i (suc j))
 
   abbrev Located : (ℕ → ℕ) → ℕ → Type 0
@@ -61,7 +61,7 @@ module _ (p q : Graph) (ok : Ends p) (R : Made p q) where
       (cases_lt (suc o.1) (L (w o.0)))
 
   apart : (w : ℕ → ℕ) (i i' k k' : ℕ) → k < L (w i) → pos w i + k ≡ pos w i' + k' → i < i' → ⊥
-  apart w i i' k k' l e h = let m = pos-mono w (suc i) i' h in omega arith
+  apart w i i' k k' l e h = let m = pos_mono w (suc i) i' h in omega arith
 
   unique : (w : ℕ → ℕ) (i i' k k' : ℕ) → k < L (w i) → k' < L (w i') → pos w i + k ≡ pos w i' + k' → i ≡ i'
   unique w i i' k k' l l' e =
@@ -72,17 +72,17 @@ module _ (p q : Graph) (ok : Ends p) (R : Made p q) where
   -- What two such ways share
 
   module _ (w v : ℕ → ℕ) (real : Real w) (follows : Follows w v) where
-    same-stage : (i : ℕ) → stage_on q v (pos w i) ≡ stage_on p w i
-    same-stage i =
+    same_stage : (i : ℕ) → stage_on q v (pos w i) ≡ stage_on p w i
+    same_stage i =
         let e : v (pos w i) ≡ c (w i) 0 =
         subst (λ x. v x ≡ c (w i) 0) (add-zero (pos w i)) (follows i 0 (R.chains.some (w i) (real i))) in
         ap (λ m. (move_at q m).leaves) e ∙ R.chains.first (w i) (real i)
 
-    same-time : (i : ℕ) → time_on q (pos w i) v ≡ time_on p i w
-    same-time zero = refl
-    same-time (suc i) =
-        let h = same-time i in
-        let a = sum-join minutes_of q (pos w i) (L (w i)) v in
+    same_time : (i : ℕ) → time_on q (pos w i) v ≡ time_on p i w
+    same_time zero = refl
+    same_time (suc i) =
+        let h = same_time i in
+        let a = sum_join minutes_of q (pos w i) (L (w i)) v in
         let b = time_list q (R.chains.chain (w i)) (λ j. v (pos w i + j)) (follows i) in
         let d = R.chains.minutes (w i) (real i) in
         let e = sum_more minutes_of p i w in
@@ -97,15 +97,15 @@ module _ (p q : Graph) (ok : Ends p) (R : Made p q) where
         e' h a b d e = omega arith
 
     -- an open stage of v is one of w
-    shown-at : (j : ℕ) → Open q (stage_on q v j) → (i : ℕ) × (pos w i ≡ j)
-    shown-at j o = go (locate w real j)
+    shown_at : (j : ℕ) → Open q (stage_on q v j) → (i : ℕ) × (pos w i ≡ j)
+    shown_at j o = go (locate w real j)
       where
         go : Located w j → (i : ℕ) × (pos w i ≡ j)
-        go at_place = at-k at_place.0 at_place.1 at_place.2 at_place.3
+        go at_place = at_k at_place.0 at_place.1 at_place.2 at_place.3
           where
-            at-k : (i k : ℕ) → k < L (w i) → pos w i + k ≡ j → (i : ℕ) × (pos w i ≡ j)
-            at-k i zero l e = (i, omega arith)
-            at-k i (suc k) l e =
+            at_k : (i k : ℕ) → k < L (w i) → pos w i + k ≡ j → (i : ℕ) × (pos w i ≡ j)
+            at_k i zero l e = (i, omega arith)
+            at_k i (suc k) l e =
                 let m : (move_at q (v j)).leaves ≡ (move_at q (c (w i) k)).enters =
                 ap (λ x. (move_at q x).leaves) (subst (λ x. v x ≡ c (w i) (suc k)) e (follows i (suc k) l))
                 ∙ R.chains.joined (w i) k (real i) l in
@@ -114,22 +114,22 @@ module _ (p q : Graph) (ok : Ends p) (R : Made p q) where
 
     module _ (SF SG SF' SG' : ℕ → Type 0) (b : Bound) (fits : (i : ℕ) → stage_on p w i < size p)
         (same-open : (s : ℕ) → s < size p → stage_at q s ≡ stage_at p s) where
-      until-to : ((s : ℕ) → s < size p → SF s → SF' s) → ((s : ℕ) → s < size p → SG s → SG' s) → Until p SF b SG w
+      until_to : ((s : ℕ) → s < size p → SF s → SF' s) → ((s : ℕ) → s < size p → SG s → SG' s) → Until p SF b SG w
           → Until q SF' b SG' v
-      until-to f g u =
+      until_to f g u =
           let st = stage_on p w u.place in
           record {
             place = pos w u.place;
-            shown = subst (λ x. Open q x) (sym (same-stage u.place))
+            shown = subst (λ x. Open q x) (sym (same_stage u.place))
                 (subst (λ (x : Stage). T x.shown) (sym (same-open st (fits u.place))) u.shown);
-            goal = subst SG' (sym (same-stage u.place)) (g st (fits u.place) u.goal);
-            timely = subst (Meets b) (sym (same-time u.place)) u.timely;
+            goal = subst SG' (sym (same_stage u.place)) (g st (fits u.place) u.goal);
+            timely = subst (Meets b) (sym (same_time u.place)) u.timely;
             before = λ j l o.
-                let h = shown-at j o in
+                let h = shown_at j o in
                 let e : stage_on q v j ≡ stage_on p w h.0 =
-                subst (λ x. stage_on q v x ≡ stage_on p w h.0) h.1 (same-stage h.0) in
+                subst (λ x. stage_on q v x ≡ stage_on p w h.0) h.1 (same_stage h.0) in
                 let less : h.0 < u.place =
-                ⊎_elim (λ z. z) (λ z. let m = pos-mono w u.place h.0 z in absurd (omega (arith, h.1)))
+                ⊎_elim (λ z. z) (λ z. let m = pos_mono w u.place h.0 z in absurd (omega (arith, h.1)))
                 (cases_lt h.0 u.place) in
                 subst SF' (sym e)
                 (f (stage_on p w h.0) (fits h.0)
@@ -138,25 +138,25 @@ module _ (p q : Graph) (ok : Ends p) (R : Made p q) where
                 (subst (λ x. Open q x) e o))));
           }
 
-      until-from : ((s : ℕ) → s < size p → SF' s → SF s) → ((s : ℕ) → s < size p → SG' s → SG s) → Until q SF' b SG' v
+      until_from : ((s : ℕ) → s < size p → SF' s → SF s) → ((s : ℕ) → s < size p → SG' s → SG s) → Until q SF' b SG' v
           → Until p SF b SG w
-      until-from f g u =
-          let h = shown-at u.place u.shown in
+      until_from f g u =
+          let h = shown_at u.place u.shown in
           let e : stage_on q v u.place ≡ stage_on p w h.0 =
-          subst (λ x. stage_on q v x ≡ stage_on p w h.0) h.1 (same-stage h.0) in
+          subst (λ x. stage_on q v x ≡ stage_on p w h.0) h.1 (same_stage h.0) in
           let st = stage_on p w h.0 in
           record {
             place = h.0;
             shown = subst (λ (x : Stage). T x.shown) (same-open st (fits h.0))
                 (subst (λ x. Open q x) e u.shown);
             goal = g st (fits h.0) (subst SG' e u.goal);
-            timely = subst (Meets b) (same-time h.0) (subst (λ x. Meets b (time_on q x v)) (sym h.1) u.timely);
+            timely = subst (Meets b) (same_time h.0) (subst (λ x. Meets b (time_on q x v)) (sym h.1) u.timely);
             before = λ i l o.
                 f (stage_on p w i) (fits i)
-                (subst SF' (same-stage i)
+                (subst SF' (same_stage i)
                 (u.before (pos w i)
-                (let m = pos-mono w (suc i) h.0 l in let n = R.chains.some (w i) (real i) in omega (arith, h.1))
-                (subst (λ x. Open q x) (sym (same-stage i))
+                (let m = pos_mono w (suc i) h.0 l in let n = R.chains.some (w i) (real i) in omega (arith, h.1))
+                (subst (λ x. Open q x) (sym (same_stage i))
                 (subst (λ (x : Stage). T x.shown) (sym (same-open (stage_on p w i) (fits i))) o))));
           }
 
@@ -166,8 +166,8 @@ module _ (p q : Graph) (ok : Ends p) (R : Made p q) where
     abbrev spelt : ℕ → ℕ
     spelt j = let o = locate r.way r.real j in c (r.way o.0) o.1
 
-    spelt-follows : Follows r.way spelt
-    spelt-follows i k l = go (locate r.way r.real (pos r.way i + k))
+    spelt_follows : Follows r.way spelt
+    spelt_follows i k l = go (locate r.way r.real (pos r.way i + k))
       where
         go : (o : Located r.way (pos r.way i + k)) → c (r.way o.0) o.1 ≡ c (r.way i) k
         go o =
@@ -182,7 +182,7 @@ module _ (p q : Graph) (ok : Ends p) (R : Made p q) where
           way = spelt;
           real = λ j. let o = locate r.way r.real j in
               R.chains.real (r.way o.0) o.1 (r.real o.0) o.2;
-          starts = same-stage r.way spelt r.real spelt-follows 0 ∙ r.starts;
+          starts = same_stage r.way spelt r.real spelt_follows 0 ∙ r.starts;
           joined = joined;
         }
       where
@@ -195,13 +195,13 @@ module _ (p q : Graph) (ok : Ends p) (R : Made p q) where
             go : Located w j → (move_at q (spelt (suc j))).leaves ≡ (move_at q (spelt j)).enters
             go o =
                 let here : spelt j ≡ c (w o.0) o.1 =
-                subst (λ x. spelt x ≡ c (w o.0) o.1) o.3 (spelt-follows o.0 o.1 o.2) in
+                subst (λ x. spelt x ≡ c (w o.0) o.1) o.3 (spelt_follows o.0 o.1 o.2) in
                 ⊎_elim
                 (λ l.
                 let there : spelt (suc j) ≡ c (w o.0) (suc o.1) =
                 subst (λ x. spelt x ≡ c (w o.0) (suc o.1))
                 (let z : pos w o.0 + suc o.1 ≡ suc j = omega (arith, o.3) in z)
-                (spelt-follows o.0 (suc o.1) l) in
+                (spelt_follows o.0 (suc o.1) l) in
                 ap (λ m. (move_at q m).leaves) there ∙ R.chains.joined (w o.0) o.1 (r.real o.0) l
                 ∙ ap (λ m. (move_at q m).enters) (sym here))
                 (λ l.
@@ -209,7 +209,7 @@ module _ (p q : Graph) (ok : Ends p) (R : Made p q) where
                 let there : (move_at q (spelt (suc j))).leaves ≡ (move_at p (w (suc o.0))).leaves =
                 subst (λ x. stage_on q spelt x ≡ stage_on p w (suc o.0))
                 (let z : pos w (suc o.0) ≡ suc j = omega (arith, o.3) in z)
-                (same-stage w spelt r.real spelt-follows (suc o.0)) in
+                (same_stage w spelt r.real spelt_follows (suc o.0)) in
                 there ∙ r.joined o.0 ∙ sym (R.chains.last (w o.0) o.1 (r.real o.0) end)
                 ∙ ap (λ m. (move_at q m).enters) (sym here))
                 (cases_lt (suc o.1) (L (w o.0)))
@@ -251,100 +251,100 @@ module _ (p q : Graph) (ok : Ends p) (R : Made p q) where
         let h = hop here.0 here.1 in
         (here.0 + L h.0, subst (λ x. x < size p) (sym h.4) (ok.to h.0 h.1))
 
-    abbrev hop-at : (i : ℕ) → Hop (trail i).0
-    hop-at i = hop (trail i).0 (trail i).1
+    abbrev hop_at : (i : ℕ) → Hop (trail i).0
+    hop_at i = hop (trail i).0 (trail i).1
 
     abbrev read : ℕ → ℕ
-    read i = (hop-at i).0
+    read i = (hop_at i).0
 
     read_pos : (i : ℕ) → pos read i ≡ (trail i).0
     read_pos zero = refl
     read_pos (suc i) = ap (λ x. x + L (read i)) (read_pos i)
 
-    read-run : Run p s
-    read-run =
+    read_run : Run p s
+    read_run =
         record {
           way = read;
-          real = λ i. (hop-at i).1;
-          starts = (hop-at 0).2 ∙ r.starts;
-          joined = λ i. (hop-at (suc i)).2 ∙ (hop-at i).4;
+          real = λ i. (hop_at i).1;
+          starts = (hop_at 0).2 ∙ r.starts;
+          joined = λ i. (hop_at (suc i)).2 ∙ (hop_at i).4;
         }
 
-    read-follows : Follows read v
-    read-follows i k l = subst (λ x. v (x + k) ≡ c (read i) k) (sym (read_pos i)) ((hop-at i).3 k l)
+    read_follows : Follows read v
+    read_follows i k l = subst (λ x. v (x + k) ≡ c (read i) k) (sym (read_pos i)) ((hop_at i).3 k l)
 
-  same-stages : (s : ℕ) → s < size p → stage_at q s ≡ stage_at p s
-  same-stages s l =
+  same_stages : (s : ℕ) → s < size p → stage_at q s ≡ stage_at p s
+  same_stages s l =
       ap (λ (xs : List Stage). get_or xs s (record { marks = 0; shown = false })) R.chains.stages
       ∙ get_or-append p.stages R.chains.extra (record { marks = 0; shown = false }) s l
 
-  open-to : (s : ℕ) → s < size p → Open p s → Open q s
-  open-to s l o = subst (λ (x : Stage). T x.shown) (sym (same-stages s l)) o
+  open_to : (s : ℕ) → s < size p → Open p s → Open q s
+  open_to s l o = subst (λ (x : Stage). T x.shown) (sym (same_stages s l)) o
 
   open_from : (s : ℕ) → s < size p → Open q s → Open p s
-  open_from s l o = subst (λ (x : Stage). T x.shown) (same-stages s l) o
+  open_from s l o = subst (λ (x : Stage). T x.shown) (same_stages s l) o
 
   abbrev Keeps : Rule → Type 0
   Keeps f = (s : ℕ) → s < size p → Holds p f s ↔ Holds q f s
 
-  keeps-some : (f g : Rule) (b : Bound) → Keeps f → Keeps g → Keeps (some_run f b g)
-  unfolding spelt_run read-run
-  keeps-some f g b kf kg s l = (
+  keeps_some : (f g : Rule) (b : Bound) → Keeps f → Keeps g → Keeps (some_run f b g)
+  unfolding spelt_run read_run
+  keeps_some f g b kf kg s l = (
     (λ t.
         let r = t.1.0 in (
-          open-to s l t.0,
+          open_to s l t.0,
           (
             spelt_run s r,
-            until-to r.way (spelt s r) r.real (spelt-follows s r) (λ x. Holds p f x) (λ x. Holds p g x)
-                (λ x. Holds q f x) (λ x. Holds q g x) b (λ j. ok.from (r.way j) (r.real j)) same-stages
+            until_to r.way (spelt s r) r.real (spelt_follows s r) (λ x. Holds p f x) (λ x. Holds p g x)
+                (λ x. Holds q f x) (λ x. Holds q g x) b (λ j. ok.from (r.way j) (r.real j)) same_stages
                 (λ x m. (kf x m).0) (λ x m. (kg x m).0) t.1.1,
           ),
         )),
     (λ t.
         let r = t.1.0 in
-        let r' = read-run s l r in (
+        let r' = read_run s l r in (
           open_from s l t.0,
           (
             r',
-            until-from r'.way r.way r'.real (read-follows s l r) (λ x. Holds p f x) (λ x. Holds p g x)
-                (λ x. Holds q f x) (λ x. Holds q g x) b (λ j. ok.from (r'.way j) (r'.real j)) same-stages
+            until_from r'.way r.way r'.real (read_follows s l r) (λ x. Holds p f x) (λ x. Holds p g x)
+                (λ x. Holds q f x) (λ x. Holds q g x) b (λ j. ok.from (r'.way j) (r'.real j)) same_stages
                 (λ x m. (kf x m).1) (λ x m. (kg x m).1) t.1.1,
           ),
         )),
   )
 
-  keeps-each : (f g : Rule) (b : Bound) → Keeps f → Keeps g → Keeps (each_run f b g)
-  unfolding spelt_run read-run
-  keeps-each f g b kf kg s l = (
+  keeps_each : (f g : Rule) (b : Bound) → Keeps f → Keeps g → Keeps (each_run f b g)
+  unfolding spelt_run read_run
+  keeps_each f g b kf kg s l = (
     (λ t. (
-      open-to s l t.0,
+      open_to s l t.0,
       λ r.
-          let r' = read-run s l r in
-          until-to r'.way r.way r'.real (read-follows s l r) (λ x. Holds p f x) (λ x. Holds p g x)
-          (λ x. Holds q f x) (λ x. Holds q g x) b (λ j. ok.from (r'.way j) (r'.real j)) same-stages
+          let r' = read_run s l r in
+          until_to r'.way r.way r'.real (read_follows s l r) (λ x. Holds p f x) (λ x. Holds p g x)
+          (λ x. Holds q f x) (λ x. Holds q g x) b (λ j. ok.from (r'.way j) (r'.real j)) same_stages
           (λ x m. (kf x m).0) (λ x m. (kg x m).0) (t.1 r'),
     )),
     (λ t. (
       open_from s l t.0,
       λ r.
-          until-from r.way (spelt s r) r.real (spelt-follows s r) (λ x. Holds p f x) (λ x. Holds p g x)
-          (λ x. Holds q f x) (λ x. Holds q g x) b (λ j. ok.from (r.way j) (r.real j)) same-stages
+          until_from r.way (spelt s r) r.real (spelt_follows s r) (λ x. Holds p f x) (λ x. Holds p g x)
+          (λ x. Holds q f x) (λ x. Holds q g x) b (λ j. ok.from (r.way j) (r.real j)) same_stages
           (λ x m. (kf x m).1) (λ x m. (kg x m).1) (t.1 (spelt_run s r)),
     )),
   )
 
   keeps : (f : Rule) → Keeps f
-  keeps one s l = (open-to s l, open_from s l)
+  keeps one s l = (open_to s l, open_from s l)
   keeps (letter a) s l = (
     (λ t. (
-      open-to s l t.0,
-      subst (λ (x : Stage). T (eqb ((x.marks / 2 ^ a) % 2) 1)) (sym (same-stages s l)) t.1,
+      open_to s l t.0,
+      subst (λ (x : Stage). T (eqb ((x.marks / 2 ^ a) % 2) 1)) (sym (same_stages s l)) t.1,
     )),
-    (λ t. (open_from s l t.0, subst (λ (x : Stage). T (eqb ((x.marks / 2 ^ a) % 2) 1)) (same-stages s l) t.1)),
+    (λ t. (open_from s l t.0, subst (λ (x : Stage). T (eqb ((x.marks / 2 ^ a) % 2) 1)) (same_stages s l) t.1)),
   )
   keeps (not f) s l =
       let k = keeps f s l in
-      ((λ t. (open-to s l t.0, λ u. t.1 (k.1 u))), (λ t. (open_from s l t.0, λ u. t.1 (k.0 u))))
+      ((λ t. (open_to s l t.0, λ u. t.1 (k.1 u))), (λ t. (open_from s l t.0, λ u. t.1 (k.0 u))))
   keeps (both f g) s l =
       let k = keeps f s l in
       let k' = keeps g s l in
@@ -353,8 +353,8 @@ module _ (p q : Graph) (ok : Ends p) (R : Made p q) where
       let k = keeps f s l in
       let k' = keeps g s l in
       (⊎_elim (λ t. inl (k.0 t)) (λ t. inr (k'.0 t)), ⊎_elim (λ t. inl (k.1 t)) (λ t. inr (k'.1 t)))
-  keeps (some_run f b g) s l = keeps-some f g b (keeps f) (keeps g) s l
-  keeps (each_run f b g) s l = keeps-each f g b (keeps f) (keeps g) s l
+  keeps (some_run f b g) s l = keeps_some f g b (keeps f) (keeps g) s l
+  keeps (each_run f b g) s l = keeps_each f g b (keeps f) (keeps g) s l
 
 pub making_keeps : MakingKeeps
 making_keeps = keeps
@@ -390,55 +390,55 @@ module _ (p q : Graph) (R : Refines p q) where
           let u = r.starts in
           absurd (omega arith)
 
-  pub refines-made : Made p q
-  refines-made = record { chains = R.chains; covers = covers }
+  pub refines_made : Made p q
+  refines_made = record { chains = R.chains; covers = covers }
 
 pub refinement_keeps_lem : RefinementKeeps
-refinement_keeps_lem p q ok R = making_keeps p q ok (refines-made p q R)
+refinement_keeps_lem p q ok R = making_keeps p q ok (refines_made p q R)
 
 -- A refinement is sound exactly if what it refines is, where its extra stages have a move out.
 
 module _ (p q : Graph) (ok : Ends p) (R : Refines p q) where
   abbrev M : Made p q
-  M = refines-made p q R
+  M = refines_made p q R
 
-  size-q : size p ≤ size q
-  size-q = let e = ap length R.chains.stages in let f = length-append p.stages R.chains.extra in omega arith
+  size_q : size p ≤ size q
+  size_q = let e = ap length R.chains.stages in let f = length-append p.stages R.chains.extra in omega arith
 
-  old-at : (w v : ℕ → ℕ) (real : Real p q ok M w) (follows : Follows p q ok M w v) (j : ℕ) → stage_on q v j < size p
+  old_at : (w v : ℕ → ℕ) (real : Real p q ok M w) (follows : Follows p q ok M w v) (j : ℕ) → stage_on q v j < size p
       → (i : ℕ) × (pos p q ok M w i ≡ j)
-  old-at w v real follows j o = go (locate p q ok M w real j)
+  old_at w v real follows j o = go (locate p q ok M w real j)
     where
       go : Located p q ok M w j → (i : ℕ) × (pos p q ok M w i ≡ j)
-      go at_place = at-k at_place.0 at_place.1 at_place.2 at_place.3
+      go at_place = at_k at_place.0 at_place.1 at_place.2 at_place.3
         where
-          at-k : (i k : ℕ) → k < L p q ok M (w i) → pos p q ok M w i + k ≡ j → (i : ℕ) × (pos p q ok M w i ≡ j)
-          at-k i zero l e = (i, omega arith)
-          at-k i (suc k) l e =
+          at_k : (i k : ℕ) → k < L p q ok M (w i) → pos p q ok M w i + k ≡ j → (i : ℕ) × (pos p q ok M w i ≡ j)
+          at_k i zero l e = (i, omega arith)
+          at_k i (suc k) l e =
               let m : (move_at q (v j)).leaves ≡ (move_at q (c p q ok M (w i) k)).enters =
               ap (λ x. (move_at q x).leaves) (subst (λ x. v x ≡ c p q ok M (w i) (suc k)) e (follows i (suc k) l))
               ∙ M.chains.joined (w i) k (real i) l in
               let t = M.chains.through (w i) k (real i) l in
               absurd (omega arith)
 
-  down-passing : Sound q → (s : ℕ) (r : Run p s) (i : ℕ) → stage_on p r.way (suc i) ≡ s
+  down_passing : Sound q → (s : ℕ) (r : Run p s) (i : ℕ) → stage_on p r.way (suc i) ≡ s
       → 0 < time_on p (suc i) r.way
-  unfolding spelt_run refines-made
-  down-passing sq s r i e =
+  unfolding spelt_run refines_made
+  down_passing sq s r i e =
       let w = r.way in
       let u = spelt p q ok M s r in
-      let f = spelt-follows p q ok M s r in
-      let back : stage_on q u (pos p q ok M w (suc i)) ≡ s = same-stage p q ok M w u r.real f (suc i) ∙ e in
-      let t : time_on q (pos p q ok M w (suc i)) u ≡ time_on p (suc i) w = same-time p q ok M w u r.real f (suc i) in
+      let f = spelt_follows p q ok M s r in
+      let back : stage_on q u (pos p q ok M w (suc i)) ≡ s = same_stage p q ok M w u r.real f (suc i) ∙ e in
+      let t : time_on q (pos p q ok M w (suc i)) u ≡ time_on p (suc i) w = same_time p q ok M w u r.real f (suc i) in
       let some = R.chains.some (w i) (r.real i) in
       let e2 : suc (pos p q ok M w (suc i) - 1) ≡ pos p q ok M w (suc i) = omega arith in
       let h = sq.passing s (spelt_run p q ok M s r) (pos p q ok M w (suc i) - 1)
       (subst (λ x. stage_on q u x ≡ s) (sym e2) back) in
       subst (λ x. 0 < x) t (subst (λ x. 0 < time_on q x u) e2 h)
 
-  down-onward : Sound q → (s : ℕ) → s < size p → (m : ℕ) × (m < count p) × ((move_at p m).leaves ≡ s)
-  down-onward sq s l =
-      let z = size-q in
+  down_onward : Sound q → (s : ℕ) → s < size p → (m : ℕ) × (m < count p) × ((move_at p m).leaves ≡ s)
+  down_onward sq s l =
+      let z = size_q in
       let a = sq.onward s (omega arith) in
       let o = R.all a.0 a.1 in
       go a.0 a.2 o.0 o.1 o.2 o.3 o.4
@@ -452,27 +452,27 @@ module _ (p q : Graph) (ok : Ends p) (R : Refines p q) where
           let t = R.chains.through m k lm lk in
           absurd (omega arith)
 
-  pub sound-down : Sound q → Sound p
-  sound-down sq = record { from = ok.from; to = ok.to; onward = down-onward sq; passing = down-passing sq }
+  pub sound_down : Sound q → Sound p
+  sound_down sq = record { from = ok.from; to = ok.to; onward = down_onward sq; passing = down_passing sq }
 
   module _ (sp : Sound p) where
-    up-old : (s : ℕ) → s < size p → (r : Run q s) (i : ℕ) → stage_on q r.way (suc i) ≡ s
+    up_old : (s : ℕ) → s < size p → (r : Run q s) (i : ℕ) → stage_on q r.way (suc i) ≡ s
         → 0 < time_on q (suc i) r.way
-    unfolding read-run
-    up-old s l r i e =
-        let r' = read-run p q ok M s l r in
-        let f = read-follows p q ok M s l r in
-        let o = old-at r'.way r.way r'.real f (suc i) (subst (λ x. x < size p) (sym e) l) in
+    unfolding read_run
+    up_old s l r i e =
+        let r' = read_run p q ok M s l r in
+        let f = read_follows p q ok M s l r in
+        let o = old_at r'.way r.way r'.real f (suc i) (subst (λ x. x < size p) (sym e) l) in
         go o.0 o.1
       where
         go : (n : ℕ) → pos p q ok M (read p q ok M s l r) n ≡ suc i → 0 < time_on q (suc i) r.way
         go zero h = absurd (omega arith)
         go (suc n) h =
-            let r' = read-run p q ok M s l r in
-            let f = read-follows p q ok M s l r in
+            let r' = read_run p q ok M s l r in
+            let f = read_follows p q ok M s l r in
             let back : stage_on p r'.way (suc n) ≡ s =
-            sym (same-stage p q ok M r'.way r.way r'.real f (suc n)) ∙ ap (stage_on q r.way) h ∙ e in
-            let t = same-time p q ok M r'.way r.way r'.real f (suc n) in
+            sym (same_stage p q ok M r'.way r.way r'.real f (suc n)) ∙ ap (stage_on q r.way) h ∙ e in
+            let t = same_time p q ok M r'.way r.way r'.real f (suc n) in
             let d = sp.passing s r' n back in
             subst (λ x. 0 < time_on q x r.way) h (subst (λ x. 0 < x) (sym t) d)
 
@@ -524,17 +524,17 @@ module _ (p q : Graph) (ok : Ends p) (R : Refines p q) where
             (0, (λ t h. absurd (not-suc-le-zero h)), omega arith)
         go m (suc k) lm lk e = at_n m k (length (R.chains.chain m) - suc (suc k)) lm (omega arith) e
 
-    up-passing : (s : ℕ) (r : Run q s) (i : ℕ) → stage_on q r.way (suc i) ≡ s → 0 < time_on q (suc i) r.way
-    up-passing s r i e = let o = settle s r in go o.0 o.1 o.2
+    up_passing : (s : ℕ) (r : Run q s) (i : ℕ) → stage_on q r.way (suc i) ≡ s → 0 < time_on q (suc i) r.way
+    up_passing s r i e = let o = settle s r in go o.0 o.1 o.2
       where
         go : (j : ℕ) → ((t : ℕ) → t < j → size p ≤ stage_on q r.way t) → stage_on q r.way j < size p
             → 0 < time_on q (suc i) r.way
         go j inner there =
-            let h = up-old (stage_on q r.way j) there (drop_run q s r j) i
+            let h = up_old (stage_on q r.way j) there (drop_run q s r j) i
             (ap (stage_on q r.way) (let z : j + suc i ≡ suc i + j = omega arith in z)
             ∙ stages-same j (omega arith)) in
-            let a = sum-join minutes_of q j (suc i) r.way in
-            let b = sum-join minutes_of q (suc i) j r.way in
+            let a = sum_join minutes_of q j (suc i) r.way in
+            let b = sum_join minutes_of q (suc i) j r.way in
             let d = sum_same minutes_of q j (λ t. r.way (suc i + t)) r.way
             (λ t l. one-move t l (stages-same t (omega arith))) in
             let f : time_on q (j + suc i) r.way ≡ time_on q (suc i + j) r.way =
@@ -561,9 +561,9 @@ module _ (p q : Graph) (ok : Ends p) (R : Refines p q) where
                 → 0 < time_on q (suc i) r.way
             sums h a b d f = omega arith
 
-    up-onward : ((s : ℕ) → size p ≤ s → s < size q → (m : ℕ) × (m < count q) × ((move_at q m).leaves ≡ s)) → (s : ℕ)
+    up_onward : ((s : ℕ) → size p ≤ s → s < size q → (m : ℕ) × (m < count q) × ((move_at q m).leaves ≡ s)) → (s : ℕ)
         → s < size q → (m : ℕ) × (m < count q) × ((move_at q m).leaves ≡ s)
-    up-onward out s l =
+    up_onward out s l =
         ⊎_elim
         (λ h.
         let o = sp.onward s h in (
@@ -574,6 +574,6 @@ module _ (p q : Graph) (ok : Ends p) (R : Refines p q) where
         (λ h. out s h l)
         (cases_lt s (size p))
 
-    pub sound-up : Ends q → ((s : ℕ) → size p ≤ s → s < size q → (m : ℕ) × (m < count q) × ((move_at q m).leaves ≡ s))
+    pub sound_up : Ends q → ((s : ℕ) → size p ≤ s → s < size q → (m : ℕ) × (m < count q) × ((move_at q m).leaves ≡ s))
         → Sound q
-    sound-up oq out = record { from = oq.from; to = oq.to; onward = up-onward out; passing = up-passing }
+    sound_up oq out = record { from = oq.from; to = oq.to; onward = up_onward out; passing = up_passing }

@@ -2,7 +2,7 @@
 use Rattle.std.proofs.Common.{◌≡◌, ℕ, zero, suc, ◌+◌, ◌<◌, Bool, T, sym, ap, ◌∙◌, subst, inl, inr, not-suc-le-zero, add-zero, add-suc, arith}
 use Rattle.tctl.specs.Graph.{Graph, Move, size, count, move_at}
 use Rattle.tctl.specs.Runs.{Run, stage_on, time_on, Sound}
-use Rattle.tctl.proofs.Sums.{sum-none}
+use Rattle.tctl.proofs.Sums.{sum_none}
 use Rattle.tctl.proofs.Reach.{Reach}
 
 abbrev pub next : (ℕ → ℕ) → ℕ → ℕ
@@ -102,11 +102,11 @@ module _ (p : Graph) (X Y : ℕ → Type 0)
         joined = λ i. (onward (trail s x (suc i)).0 (trail s x (suc i)).1).2;
       }
 
-  pub inside-stays : (s : ℕ) (x : X s) (i : ℕ) → X (stage_on p (inside s x).way i)
-  inside-stays s x i = subst X (sym (onward (trail s x i).0 (trail s x i).1).2) (trail s x i).1
+  pub inside_stays : (s : ℕ) (x : X s) (i : ℕ) → X (stage_on p (inside s x).way i)
+  inside_stays s x i = subst X (sym (onward (trail s x i).0 (trail s x i).1).2) (trail s x i).1
 
-  pub inside-sort : (s : ℕ) (x : X s) (i : ℕ) → Y ((inside s x).way i)
-  inside-sort s x i = (onward (trail s x i).0 (trail s x i).1).3
+  pub inside_sort : (s : ℕ) (x : X s) (i : ℕ) → Y ((inside s x).way i)
+  inside_sort s x i = (onward (trail s x i).0 (trail s x i).1).3
 
 pub some_run : (p : Graph) → Sound p → (s : ℕ) → s < size p → Run p s
 some_run p ok =
@@ -124,4 +124,4 @@ drop_run p s r i =
     }
 
 pub no_time : (p : Graph) (k : ℕ) (w : ℕ → ℕ) → ((j : ℕ) → (move_at p (w j)).minutes ≡ 0) → time_on p k w ≡ 0
-no_time = sum-none (λ (m : Move). m.minutes)
+no_time = sum_none (λ (m : Move). m.minutes)

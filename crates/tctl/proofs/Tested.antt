@@ -7,7 +7,7 @@ use Rattle.tctl.specs.Checker.{table, at, into, endless, any_move, still, ◌and
 use Rattle.tctl.specs.Theorems.{TestRight}
 use Rattle.tctl.proofs.Basics.{and_l, and_r, and_i, non_e, non_i, table_i}
 use Rattle.tctl.proofs.Runs.{next}
-use Rattle.tctl.proofs.Endless.{In, in-pull, into_e, into_i, moving}
+use Rattle.tctl.proofs.Endless.{In, in_pull, into_e, into_i, moving}
 
 pub all_e : (f : ℕ → Bool) (n : ℕ) → T (all_below n f) → (i : ℕ) → i < n → T (f i)
 all_e f zero t i l = absurd (not-suc-le-zero l)
@@ -41,20 +41,20 @@ module _ (p : Graph) where
   moves s = non (at (endless p still every n) s)
 
   -- a cycle that takes no time is never removed
-  cycle-stays : (from : (m : ℕ) → m < count p → (move_at p m).leaves < n) (s : ℕ) (r : Run p s) (i : ℕ)
+  cycle_stays : (from : (m : ℕ) → m < count p → (move_at p m).leaves < n) (s : ℕ) (r : Run p s) (i : ℕ)
       → stage_on p r.way (suc i) ≡ s → time_on p (suc i) r.way ≡ 0
       → (k j : ℕ) → j < suc i → In p from still every k (stage_on p r.way j)
-  cycle-stays from s r i back none zero j l = table_i (λ x. true) n (stage_on p r.way j)
+  cycle_stays from s r i back none zero j l = table_i (λ x. true) n (stage_on p r.way j)
       (from (r.way j) (r.real j)) tt
-  cycle-stays from s r i back none (suc k) j l =
-      go (cases_eq j i) (cycle-stays from s r i back none k)
+  cycle_stays from s r i back none (suc k) j l =
+      go (cases_eq j i) (cycle_stays from s r i back none k)
     where
       st : ℕ → ℕ
       st = stage_on p r.way
 
       pull : In p from still every k (st (suc j)) → In p from still every (suc k) (st j)
       pull t =
-          in-pull p from still every k (st j) (table_i (λ x. true) n (st j) (from (r.way j) (r.real j)) tt) (
+          in_pull p from still every k (st j) (table_i (λ x. true) n (st j) (from (r.way j) (r.real j)) tt) (
             r.way j,
             r.real j,
             refl,
@@ -69,8 +69,8 @@ module _ (p : Graph) where
           pull (subst (In p from still every k) z (ih 0 (omega arith)))
       go (inr d) ih = pull (ih (suc j) (omega arith))
 
-  sound-e : T (sound? p) → Sound p
-  sound-e t = record { from = from; to = to; onward = onward; passing = passing }
+  sound_e : T (sound? p) → Sound p
+  sound_e t = record { from = from; to = to; onward = onward; passing = passing }
     where
       t₁ : T (all_below (count p) ends)
       t₁ = and_l (all_below (count p) ends) (all_below n goes and all_below n moves) t
@@ -100,11 +100,11 @@ module _ (p : Graph) where
           absurd
           (non_e (at (endless p still every n) x)
           (all_e moves n (and_r (all_below n goes) (all_below n moves) t₂) x (from (r.way 0) (r.real 0)))
-          (cycle-stays from s r i back none n 0 (omega arith))))
+          (cycle_stays from s r i back none n 0 (omega arith))))
           (cases_lt 0 (time_on p (suc i) r.way))
 
-  sound-i : Sound p → T (sound? p)
-  sound-i ok =
+  sound_i : Sound p → T (sound? p)
+  sound_i ok =
       and_i (all_below (count p) ends) (all_below n goes and all_below n moves)
       (all_i ends (count p) (λ m l. and_i (ltb (move_at p m).leaves n) (ltb (move_at p m).enters n)
       (lt→ltb (move_at p m).leaves n (ok.from m l)) (lt→ltb (move_at p m).enters n (ok.to m l))))
@@ -115,4 +115,4 @@ module _ (p : Graph) where
       (all_i moves n (λ s l. non_i (at (endless p still every n) s) (moving p ok s))))
 
 pub test_right_lem : TestRight
-test_right_lem p = (sound-e p, sound-i p)
+test_right_lem p = (sound_e p, sound_i p)

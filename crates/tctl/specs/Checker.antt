@@ -4,13 +4,13 @@ use Rattle.tctl.specs.Graph.{Graph, Move, stage_at, move_at, size, count}
 use Rattle.tctl.specs.Rules.{Rule, Bound, one, letter, not, both, either, some_run, each_run, most, least}
 use Rattle.tctl.specs.Holds.{marked}
 
-abbrev pub tabFrom {ℓ} : {A : Type ℓ} → (ℕ → A) → ℕ → ℕ → List A
-tabFrom f zero i = []
-tabFrom f (suc n) i = f i ∷ tabFrom f n (suc i)
+abbrev pub tab_from {ℓ} : {A : Type ℓ} → (ℕ → A) → ℕ → ℕ → List A
+tab_from f zero i = []
+tab_from f (suc n) i = f i ∷ tab_from f n (suc i)
 
 -- f 0, f 1, .., f (n - 1)
 abbrev pub table {ℓ} : {A : Type ℓ} → ℕ → (ℕ → A) → List A
-table n f = tabFrom f n 0
+table n f = tab_from f n 0
 
 infixr 30 ◌and◌
 infixr 25 ◌or◌

@@ -7,7 +7,7 @@ use Rattle.cutting.specs.Minute.{minute}
 use Rattle.cutting.specs.Theorems.{Agree}
 use Rattle.cutting.proofs.Alikes.{refined_alike_lem}
 use Rattle.cutting.proofs.Halves.{graph_ends}
-use Rattle.cutting.proofs.Minutes.{minute_refines_lem, minute-sound}
+use Rattle.cutting.proofs.Minutes.{minute_refines_lem, minute_sound}
 use Rattle.program.specs.declared.Move.{Move}
 use Rattle.program.specs.Meaning.{Prog, Limits, empty}
 use Rattle.program.specs.Graphs.{graph, timed_stage, timed_move}
@@ -61,10 +61,10 @@ module _ (p : Prog) (lim : Limits p) where
       let ok = graph_ends p (λ m l. (lim.ends m l).0) (λ m l. (lim.ends m l).1) in
       record {
         alike = refined_alike_lem (graph p) (minute (graph p)) ok (minute_refines_lem (graph p) ok);
-        sound = minute-sound (graph p) ok;
+        sound = minute_sound (graph p) ok;
       }
 
-  pub view-agrees : within (minute_prog p) ≡ true → Agree (graph p) (graph (minute_view p))
-  view-agrees h =
+  pub view_agrees : within (minute_prog p) ≡ true → Agree (graph p) (graph (minute_view p))
+  view_agrees h =
       subst (λ q. Agree (graph p) (graph q)) (sym (cond-true (within (minute_prog p)) (minute_prog p) empty h))
       (subst (Agree (graph p)) (sym (graph_minute p)) minute_agrees)

@@ -1,24 +1,13 @@
 -- What a table of new stages makes of a program, move by move.
-use Rattle.std.proofs.Common.{◌≡◌, ℕ, zero, suc, ◌+◌, ◌-◌, ◌*◌, ◌<◌, ◌≤◌, min, ◌⊎◌, List, [], ◌∷◌, ◌++◌, length, get_or, set, sym, refl, ap, ◌∙◌, subst, inl, inr, ⊎_elim, not-suc-le-zero, arith, length-append}
+use Rattle.std.proofs.Common.{◌≡◌, ℕ, zero, suc, ◌+◌, ◌-◌, ◌*◌, ◌<◌, ◌≤◌, ◌⊎◌, List, [], ◌∷◌, ◌++◌, length, get_or, set, sym, refl, ap, ◌∙◌, subst, inl, inr, not-suc-le-zero, arith}
 use Rattle.std.proofs.lemmas.List.{length-set, get_or-set_same, get_or-set_other, get_or_append_left, get_or-append_right}
 use Rattle.std.proofs.lemmas.Bool.{cases_lt}
 use Rattle.program.specs.declared.Move.{Move}
-use Rattle.program.specs.Meaning.{Prog, Limits, Fits, move_at, no_move, most_minutes, most_moves}
+use Rattle.program.specs.Meaning.{Prog, move_at, no_move, most_moves}
 use Rattle.program.specs.Edits.{leads}
 use Rattle.views.specs.Minutes.{through, made_by, inside, moves_by_minute, new_stages}
 use Rattle.views.specs.NewStages.{entry, Rising, table_moves}
-
-pub length_through : (e d s n t : ℕ) → length (through e d s n t) ≡ suc e
-length_through zero d s n t = refl
-length_through (suc e) d s n t = ap suc (length_through e d n (suc n) t)
-
-through_fits : (e d s n t c j : ℕ) → s < c → t < c → n + e ≤ c → d ≤ most_minutes → j < suc e
-    → Fits c (get_or (through e d s n t) j no_move)
-through_fits zero d s n t c zero ls lt ln ld l = (ls, lt, ld)
-through_fits zero d s n t c (suc j) ls lt ln ld l = absurd (omega arith)
-through_fits (suc e) d s n t c zero ls lt ln ld l = (ls, omega arith, ld)
-through_fits (suc e) d s n t c (suc j) ls lt ln ld l =
-    through_fits e d n (suc n) t c j (omega arith) lt (omega arith) ld (omega arith)
+use Rattle.views.specs.ViewLimits.{length_made, rises, between, makes}
 
 -- the j-th of these moves, by its two ends
 pub through_at : (e d s n t j l r : ℕ) → j ≤ e → (j ≡ 0 → l ≡ s) → (0 < j → l ≡ n + j - 1) → (j ≡ e → r ≡ t)
@@ -32,87 +21,28 @@ through_at (suc e) d s n t (suc j) l r h from from' to to' =
     through_at e d n (suc n) t j l r (omega arith) (λ z. omega arith) (λ z. omega arith) (λ z. to (ap suc z))
     (λ z. let b = to' (omega arith) in omega arith)
 
-length_made : (e : ℕ) (m : Move) (n : ℕ) → length (made_by e m n) ≡ suc e
-length_made e m n = length_through e (min m.minutes 1) m.leaves n m.enters
-
 module _ (es : List ℕ) (up : Rising es) where
-  pub rises : (k j : ℕ) → k ≤ j → j ≤ most_moves → entry es k ≤ entry es j
-  rises k zero h l = let e : entry es k ≡ entry es 0 = ap (entry es) (let z : k ≡ 0 = omega arith in z) in omega arith
-  rises k (suc j) h l = go (cases_lt k (suc j)) (rises k j)
-    where
-      go : (k < suc j) ⊎ (suc j ≤ k) → (k ≤ j → j ≤ most_moves → entry es k ≤ entry es j)
-          → entry es k ≤ entry es (suc j)
-      go (inl u) again = let a = again (omega arith) (omega arith) in let b = up j (omega arith) in omega arith
-      go (inr u) again =
-          let e : entry es k ≡ entry es (suc j) = ap (entry es) (let z : k ≡ suc j = omega arith in z) in omega arith
-
-  -- the new stages of move k, and the moves that make it
-  abbrev between : ℕ → ℕ
-  between k = entry es (suc k) - entry es k
-
-  abbrev pub makes : ℕ → ℕ → Move → List Move
-  makes n k m = made_by (between k) m (n + entry es k)
-
-  pub length-table : (n k j : ℕ) (ms : List Move) → j ≡ k + length ms → j ≤ most_moves
-      → length (table_moves es n k ms) + entry es k ≡ entry es j + length ms
-  length-table n k j [] e l =
-      let z : entry es k ≡ entry es j = ap (entry es) (let y : k ≡ j = omega arith in y) in omega arith
-  length-table n k j (m ∷ ms) e l =
-      let a = length-append (makes n k m) (table_moves es n (suc k) ms) in
-      let b = length_made (between k) m (n + entry es k) in
-      let c = up k (omega arith) in
-      let d = length-table n (suc k) j ms (omega arith) l in
-      omega arith
-
   -- new move a is the j-th of those that make move i of the list, which is move k of the program
-  pub table-move : (n b k a j i : ℕ) (ms : List Move) → i < length ms → k ≡ b + i → k < most_moves
-      → j ≤ between k → a + entry es b ≡ entry es k + i + j
-      → get_or (table_moves es n b ms) a no_move ≡ get_or (makes n k (get_or ms i no_move)) j no_move
-  table-move n b k a j i [] li ek lk lj ea = absurd (not-suc-le-zero li)
-  table-move n b k a j zero (m ∷ ms) li ek lk lj ea =
+  pub table_move : (n b k a j i : ℕ) (ms : List Move) → i < length ms → k ≡ b + i → k < most_moves
+      → j ≤ between es up k → a + entry es b ≡ entry es k + i + j
+      → get_or (table_moves es n b ms) a no_move ≡ get_or (makes es up n k (get_or ms i no_move)) j no_move
+  table_move n b k a j i [] li ek lk lj ea = absurd (not-suc-le-zero li)
+  table_move n b k a j zero (m ∷ ms) li ek lk lj ea =
       let f : b ≡ k = omega arith in
       let g : entry es b ≡ entry es k = ap (entry es) f in
       let u : a ≡ j = omega arith in
-      let c = length_made (between k) m (n + entry es k) in
-      ap (λ x. get_or (makes n x m ++ table_moves es n (suc x) ms) a no_move) f
-      ∙ ap (λ x. get_or (makes n k m ++ table_moves es n (suc k) ms) x no_move) u
-      ∙ get_or_append_left (makes n k m) (table_moves es n (suc k) ms) no_move j (omega arith)
-  table-move n b k a j (suc i) (m ∷ ms) li ek lk lj ea =
-      let c = length_made (between b) m (n + entry es b) in
-      let r = rises (suc b) k (omega arith) (omega arith) in
+      let c = length_made (between es up k) m (n + entry es k) in
+      ap (λ x. get_or (makes es up n x m ++ table_moves es n (suc x) ms) a no_move) f
+      ∙ ap (λ x. get_or (makes es up n k m ++ table_moves es n (suc k) ms) x no_move) u
+      ∙ get_or_append_left (makes es up n k m) (table_moves es n (suc k) ms) no_move j (omega arith)
+  table_move n b k a j (suc i) (m ∷ ms) li ek lk lj ea =
+      let c = length_made (between es up b) m (n + entry es b) in
+      let r = rises es up (suc b) k (omega arith) (omega arith) in
       let r' = up b (omega arith) in
-      get_or-append_right (makes n b m) (table_moves es n (suc b) ms) (suc (between b)) a no_move c
+      get_or-append_right (makes es up n b m) (table_moves es n (suc b) ms) (suc (between es up b)) a no_move c
       (omega arith)
-      ∙ table-move n (suc b) k (a - suc (between b)) j i ms (omega arith) (omega arith) lk lj
+      ∙ table_move n (suc b) k (a - suc (between es up b)) j i ms (omega arith) (omega arith) lk lj
       (omega arith)
-
-  pub table_fits : (n b o c a : ℕ) (ms : List Move)
-      → ((k : ℕ) → k < length ms → ((get_or ms k no_move).leaves < n) × ((get_or ms k no_move).enters < n))
-      → c ≡ b + length ms → c ≤ most_moves → o ≡ n + entry es c → a < length (table_moves es n b ms)
-      → Fits o (get_or (table_moves es n b ms) a no_move)
-  table_fits n b o c a [] h ec lc eo l = absurd (not-suc-le-zero l)
-  table_fits n b o c a (m ∷ ms) h ec lc eo l =
-      go (cases_lt a (suc (between b)))
-      (table_fits n (suc b) o c (a - suc (between b)) ms (λ k u. h (suc k) (omega arith)) (omega arith) lc eo)
-    where
-      go : (a < suc (between b)) ⊎ (suc (between b) ≤ a)
-          → (a - suc (between b) < length (table_moves es n (suc b) ms)
-          → Fits o (get_or (table_moves es n (suc b) ms) (a - suc (between b)) no_move))
-          → Fits o (get_or (table_moves es n b (m ∷ ms)) a no_move)
-      go (inl u) again =
-          let i = h 0 (omega arith) in
-          let x = length_made (between b) m (n + entry es b) in
-          let r = rises (suc b) c (omega arith) lc in
-          let r' = up b (omega arith) in
-          subst (Fits o) (sym (get_or_append_left (makes n b m) (table_moves es n (suc b) ms) no_move a (omega arith)))
-          (through_fits (between b) (min m.minutes 1) m.leaves (n + entry es b) m.enters o a (omega arith)
-          (omega arith) (omega arith) (omega arith) u)
-      go (inr u) again =
-          let x = length_made (between b) m (n + entry es b) in
-          let y = length-append (makes n b m) (table_moves es n (suc b) ms) in
-          subst (Fits o)
-          (sym (get_or-append_right (makes n b m) (table_moves es n (suc b) ms) (suc (between b)) a no_move x u))
-          (again (omega arith))
 
 -- The table goes by the minutes of moves, of which the first is move b.
 abbrev From : List ℕ → ℕ → List Move → Type 0

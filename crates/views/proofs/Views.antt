@@ -1,19 +1,20 @@
 -- What a view answers, from its table of new stages and the program below.
-use Rattle.std.proofs.Common.{◌≡◌, ℕ, zero, suc, ◌+◌, ◌-◌, ◌<◌, ◌≤◌, true, false, cond, leb, ◌⊎◌, List, [], ◌∷◌, ◌++◌, length, get_or, replicate, sym, refl, ap, ◌∙◌, subst, inl, inr, ⊎_elim, not-suc-le-zero, add-one, arith, length-append}
-use lib.ListN.{length-replicate}
+use Rattle.std.proofs.Common.{◌≡◌, ℕ, suc, ◌+◌, ◌-◌, ◌<◌, ◌≤◌, true, false, leb, ◌⊎◌, List, ◌++◌, length, get_or, replicate, sym, refl, ap, ◌∙◌, subst, inl, inr, ⊎_elim, add-one, arith}
 use Rattle.std.proofs.lemmas.List.{get_or_append_left, get_or-append_right, get_or-replicate}
-use Rattle.std.proofs.lemmas.Bool.{cases_Bool, cond-true, cond-false, le-leb, lt-leb, leb-true, and_from, and_left, and_right, and_parts}
+use Rattle.std.proofs.lemmas.Bool.{cases_Bool, le-leb, lt-leb, leb-true, and_from, and_left, and_right, and_parts}
 use Rattle.program.specs.declared.Stage.{Stage}
 use Rattle.program.specs.declared.Move.{Move}
-use Rattle.program.specs.Meaning.{Prog, Limits, Fits, empty, stage_at, move_at, no_stage, no_move, most_stages, most_moves}
+use Rattle.program.specs.Meaning.{Prog, Limits, empty, stage_at, move_at, no_stage, no_move, most_stages, most_moves}
 use Rattle.cutting.specs.Theorems.{Agree}
 use Rattle.program.specs.Graphs.{graph}
 use Rattle.views.specs.declared.minute.new_stages.NewStages.{NewStages}
 use Rattle.views.specs.Minutes.{made_by, inside, moves_by_minute, new_stages, silent_stage, minute_prog, within, if_within, minute_view}
 use Rattle.views.specs.Minutes.{ViewOf}
-use Rattle.views.specs.NewStages.{entry, Rising, table_moves, table_prog, viewed, ByMinutes, LengthsOf}
-use Rattle.views.proofs.Minutes.{view-agrees}
-use Rattle.views.proofs.NewStages.{makes, length-table, table-move, table_fits, table_minutes, table_total, rises}
+use Rattle.views.specs.NewStages.{entry, table_prog, viewed, ByMinutes, LengthsOf}
+use Rattle.views.proofs.Minutes.{view_agrees}
+use Rattle.views.specs.ViewLimits as limited
+use Rattle.views.specs.ViewLimits.{makes, rises}
+use Rattle.views.proofs.NewStages.{table_move, table_minutes, table_total}
 
 module _ (t : NewStages) (p : Prog) (lim : Limits p) where
   abbrev es : List ℕ
@@ -28,26 +29,23 @@ module _ (t : NewStages) (p : Prog) (lim : Limits p) where
   abbrev q : Prog
   q = table_prog es p
 
-  stages-q : length q.stages ≡ n + entry es c
-  stages-q =
-      length-append p.stages (replicate (entry es c) silent_stage)
-      ∙ ap (λ x. n + x) (length-replicate (entry es c) silent_stage)
+  stages_q : length q.stages ≡ n + entry es c
+  stages_q = limited.stages_q es t.first t.rising p lim
 
-  moves-q : length q.moves ≡ c + entry es c
-  moves-q =
-      let a = length-table es t.rising n 0 c p.moves (omega arith) lim.few_moves in omega arith
+  moves_q : length q.moves ≡ c + entry es c
+  moves_q = limited.moves_q es t.first t.rising p lim
 
   shown : within q ≡ true → viewed es p ≡ q
-  shown h = cond-true (within q) q empty h
+  shown = limited.shown es t.first t.rising p lim
 
   hidden : within q ≡ false → viewed es p ≡ empty
-  hidden h = cond-false (within q) q empty h
+  hidden = limited.hidden es t.first t.rising p lim
 
-  pub lengths-within : (s m : ℕ) → s ≡ n → m ≡ c → s + entry es m ≤ most_stages → m + entry es m ≤ most_moves
+  pub lengths_within : (s m : ℕ) → s ≡ n → m ≡ c → s + entry es m ≤ most_stages → m + entry es m ≤ most_moves
       → LengthsOf (viewed es p) (record { stages = s + entry es m; moves = m + entry es m })
-  lengths-within s m fs fm ls lm =
-      let a = stages-q in
-      let b = moves-q in
+  lengths_within s m fs fm ls lm =
+      let a = stages_q in
+      let b = moves_q in
       let i : entry es m ≡ entry es c = ap (entry es) fm in
       let h =
       shown
@@ -67,99 +65,79 @@ module _ (t : NewStages) (p : Prog) (lim : Limits p) where
   pub no_lengths : (s m : ℕ) → s ≡ n → m ≡ c → (most_stages < s + entry es m) ⊎ (most_moves < m + entry es m)
       → LengthsOf (viewed es p) (record { stages = 0; moves = 0 })
   no_lengths s m fs fm (inl h) =
-      let a = stages-q in
+      let a = stages_q in
       let i : entry es m ≡ entry es c = ap (entry es) fm in
       none
       (and_left (leb (length q.stages) most_stages) (leb (length q.moves) most_moves)
       (lt-leb (length q.stages) most_stages (omega arith)))
   no_lengths s m fs fm (inr h) =
-      let a = moves-q in
+      let a = moves_q in
       let i : entry es m ≡ entry es c = ap (entry es) fm in
       none
       (and_right (leb (length q.stages) most_stages) (leb (length q.moves) most_moves)
       (lt-leb (length q.moves) most_moves (omega arith)))
 
   -- a view that has a stage, or a move, is not cut short
-  stage-within : (s : ℕ) → s < length (viewed es p).stages → within q ≡ true
-  stage-within s l = ⊎_elim (λ h. h) (λ h. absurd (let e = ap (λ (x : Prog). length x.stages) (hidden h) in omega arith))
+  stage_within : (s : ℕ) → s < length (viewed es p).stages → within q ≡ true
+  stage_within s l = ⊎_elim (λ h. h) (λ h. absurd (let e = ap (λ (x : Prog). length x.stages) (hidden h) in omega arith))
       (cases_Bool (within q))
 
-  move-within : (k : ℕ) → k < length (viewed es p).moves → within q ≡ true
-  move-within k l = ⊎_elim (λ h. h) (λ h. absurd (let e = ap (λ (x : Prog). length x.moves) (hidden h) in omega arith))
+  move_within : (k : ℕ) → k < length (viewed es p).moves → within q ≡ true
+  move_within k l = ⊎_elim (λ h. h) (λ h. absurd (let e = ap (λ (x : Prog). length x.moves) (hidden h) in omega arith))
       (cases_Bool (within q))
 
-  pub old-stage : (s : ℕ) → s < length (viewed es p).stages → s < n → stage_at p s ≡ stage_at (viewed es p) s
-  old-stage s l h =
+  pub old_stage : (s : ℕ) → s < length (viewed es p).stages → s < n → stage_at p s ≡ stage_at (viewed es p) s
+  old_stage s l h =
       sym (get_or_append_left p.stages (replicate (entry es c) silent_stage) no_stage s h)
-      ∙ sym (ap (λ (x : Prog). stage_at x s) (shown (stage-within s l)))
+      ∙ sym (ap (λ (x : Prog). stage_at x s) (shown (stage_within s l)))
 
-  pub new-stage : (s : ℕ) → s < length (viewed es p).stages → n ≤ s → silent_stage ≡ stage_at (viewed es p) s
-  new-stage s l h =
-      let e = shown (stage-within s l) in
-      let a = stages-q in
+  pub new_stage : (s : ℕ) → s < length (viewed es p).stages → n ≤ s → silent_stage ≡ stage_at (viewed es p) s
+  new_stage s l h =
+      let e = shown (stage_within s l) in
+      let a = stages_q in
       let b = ap (λ (x : Prog). length x.stages) e in
       sym (get_or-replicate (entry es c) (s - n) silent_stage no_stage (omega arith))
       ∙ sym (get_or-append_right p.stages (replicate (entry es c) silent_stage) n s no_stage refl h)
       ∙ sym (ap (λ (x : Prog). stage_at x s) e)
 
-  pub move-below : (k m : ℕ) → k < length (viewed es p).moves → m ≡ c → k < entry es m + m
-  move-below k m l fm =
-      let a = ap (λ (x : Prog). length x.moves) (shown (move-within k l)) in
-      let b = moves-q in
+  pub move_below : (k m : ℕ) → k < length (viewed es p).moves → m ≡ c → k < entry es m + m
+  move_below k m l fm =
+      let a = ap (λ (x : Prog). length x.moves) (shown (move_within k l)) in
+      let b = moves_q in
       let i : entry es m ≡ entry es c = ap (entry es) fm in
       omega arith
 
   -- the new stages of a move have numbers of stages
-  pub stages-below : (k old s : ℕ) → k < length (viewed es p).moves → old < c → s ≡ n
+  pub stages_below : (k old s : ℕ) → k < length (viewed es p).moves → old < c → s ≡ n
       → s + entry es old + (entry es (old + 1) - entry es old) ≤ most_stages
-  stages-below k old s l lo fs =
-      let h = and_parts (leb (length q.stages) most_stages) (leb (length q.moves) most_moves) (move-within k l) in
+  stages_below k old s l lo fs =
+      let h = and_parts (leb (length q.stages) most_stages) (leb (length q.moves) most_moves) (move_within k l) in
       let a = leb-true (length q.stages) most_stages h.0 in
-      let b = stages-q in
+      let b = stages_q in
       let d = lim.few_moves in
       let r = rises es t.rising (old + 1) c (omega arith) d in
       let r' = rises es t.rising old (old + 1) (omega arith) (omega arith) in
       omega arith
 
-  pub new-move : (k old s : ℕ) (m : Move) → k < length (viewed es p).moves → old < c → s ≡ n → m ≡ move_at p old
+  pub new_move : (k old s : ℕ) (m : Move) → k < length (viewed es p).moves → old < c → s ≡ n → m ≡ move_at p old
       → entry es old + old ≤ k → k ≤ entry es (old + 1) + old
       → get_or (made_by (entry es (old + 1) - entry es old) m (s + entry es old)) (k - entry es old - old) no_move
       ≡ move_at (viewed es p) k
-  new-move k old s m l lo fs fm low high =
+  new_move k old s m l lo fs fm low high =
       let d = lim.few_moves in
       let i : entry es (old + 1) ≡ entry es (suc old) = ap (entry es) (add-one old) in
       let j : get_or (made_by (entry es (old + 1) - entry es old) m (s + entry es old)) (k - entry es old - old) no_move
       ≡ get_or (makes es t.rising n old (move_at p old)) (k - entry es old - old) no_move = cc in
       j
       ∙ sym
-      (table-move es t.rising n 0 old k (k - entry es old - old) old p.moves lo (omega arith) (omega arith) (omega arith)
+      (table_move es t.rising n 0 old k (k - entry es old - old) old p.moves lo (omega arith) (omega arith) (omega arith)
       (omega arith))
-      ∙ sym (ap (λ (x : Prog). move_at x k) (shown (move-within k l)))
-
-  pub view_limits : Limits (viewed es p)
-  view_limits = ⊎_elim whole nothing (cases_Bool (within q))
-    where
-      nothing : within q ≡ false → Limits (viewed es p)
-      nothing h =
-          subst Limits (sym (hidden h))
-          (record { few_stages = omega arith; few_moves = omega arith; ends = λ k l. absurd (not-suc-le-zero l) })
-
-      whole : within q ≡ true → Limits (viewed es p)
-      whole h =
-          let i = and_parts (leb (length q.stages) most_stages) (leb (length q.moves) most_moves) h in
-          subst Limits (sym (shown h))
-          (record {
-            few_stages = leb-true (length q.stages) most_stages i.0;
-            few_moves = leb-true (length q.moves) most_moves i.1;
-            ends = λ k l.
-                table_fits es t.rising n 0 (length q.stages) c k p.moves
-                (λ j u. ((lim.ends j u).0, (lim.ends j u).1)) (omega arith) lim.few_moves stages-q l;
-          })
+      ∙ sym (ap (λ (x : Prog). move_at x k) (shown (move_within k l)))
 
   -- a table that goes by the minutes
   pub view_of : ByMinutes es p → ViewOf p (viewed es p)
   view_of h =
-      record { lists = same; agrees = λ w. subst (λ x. Agree (graph p) (graph x)) (sym same) (view-agrees p lim w) }
+      record { lists = same; agrees = λ w. subst (λ x. Agree (graph p) (graph x)) (sym same) (view_agrees p lim w) }
     where
       from : (i k : ℕ) → i < c → k ≡ 0 + i → entry es (suc k) ≡ entry es k + inside (move_at p i)
       from i k l e =
@@ -167,18 +145,18 @@ module _ (t : NewStages) (p : Prog) (lim : Limits p) where
           let z : k ≡ i = omega arith in
           subst (λ x. entry es (suc k) ≡ entry es k + inside (move_at p x)) z (h k (omega arith))
 
-      same-moves : q.moves ≡ (minute_prog p).moves
-      same-moves =
+      same_moves : q.moves ≡ (minute_prog p).moves
+      same_moves =
           let z : n + entry es 0 ≡ n = omega arith in
           table_minutes es n 0 p.moves from ∙ ap (moves_by_minute p.moves) z
 
-      same-stages : q.stages ≡ (minute_prog p).stages
-      same-stages =
+      same_stages : q.stages ≡ (minute_prog p).stages
+      same_stages =
           let a = table_total es 0 c p.moves from (omega arith) in
           let z : entry es c ≡ new_stages p.moves = omega arith in
           ap (λ x. p.stages ++ replicate x silent_stage) z
 
       same : viewed es p ≡ minute_view p
       same =
-          ap (λ (xs : List Stage). if_within (record { stages = xs; moves = q.moves })) same-stages
-          ∙ ap (λ (ms : List Move). if_within (record { stages = (minute_prog p).stages; moves = ms })) same-moves
+          ap (λ (xs : List Stage). if_within (record { stages = xs; moves = q.moves })) same_stages
+          ∙ ap (λ (ms : List Move). if_within (record { stages = (minute_prog p).stages; moves = ms })) same_moves

@@ -11,8 +11,8 @@ abbrev pub most_segments : ℕ
 most_segments = 16
 
 -- minutes, cut down to a week
-abbrev pub within_aWeek : ℕ → ℕ
-within_aWeek d = min d most_minutes
+abbrev pub within_a_week : ℕ → ℕ
+within_a_week d = min d most_minutes
 
 -- Each segment has two open stages: it ramps in the first, without marks, and holds in the second, with its marks.
 abbrev pub segment_stages : List Segment → List Stage
@@ -29,7 +29,7 @@ goes_on_to (g ∷ gs) n = n
 abbrev pub segment_moves : List Segment → ℕ → List Move
 segment_moves [] n = []
 segment_moves (g ∷ gs) n =
-    leads n (within_aWeek g.ramp) (n + 1) ∷ leads (n + 1) (within_aWeek g.hold) (goes_on_to gs (n + 2))
+    leads n (within_a_week g.ramp) (n + 1) ∷ leads (n + 1) (within_a_week g.hold) (goes_on_to gs (n + 2))
     ∷ segment_moves gs (n + 2)
 
 abbrev pub segment_prog : List Segment → Prog

@@ -6,6 +6,7 @@ ghost use Rattle.std.specs.Prelude.{◌≡◌, ◌+◌, ◌≤◌, slice_index_o
 ghost use Rattle.program.specs.Meaning.{most_stages, no_move};
 ghost use Rattle.views.specs.Minutes.{made_by, ViewOf, MinuteGraph};
 ghost use Rattle.views.specs.NewStages.{viewed, LengthsOf};
+ghost use Rattle.views.specs.ViewLimits.{view_limits};
 
 use new_stages::NewStages;
 use program::{Kind, MOST_MOVES, MOST_STAGES, Move, NO_MOVE, NO_STAGE, Program, Stage};
@@ -79,6 +80,8 @@ fn piece(whole: Move, inside: usize, first: usize, place: usize) -> Move
 
 impl<'a, P: Program> Program for MinuteView<'a, P> {
     ghost meaning = { λ x. viewed x.new_stages.before (P.Program.meaning x.program.now) };
+
+    ghost limits = { λ x. view_limits x.new_stages.before x.new_stages.first x.new_stages.rising (P.Program.meaning x.program.now) (P.Program.limits x.program.now) };
 
     fn stage_count(&self) -> usize {
         self.lengths().stages

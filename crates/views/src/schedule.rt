@@ -1,6 +1,7 @@
 // A schedule: a program that is worked out from a list of segments as it is asked for. It holds no stage and no move.
 ghost use Rattle.std.specs.Prelude.{◌≡◌, ◌≤◌, length};
-ghost use Rattle.views.specs.Schedules.{most_segments, within_aWeek, segment_prog, schedule};
+ghost use Rattle.views.specs.Schedules.{most_segments, within_a_week, segment_prog, schedule};
+ghost use Rattle.views.specs.ScheduleLimits.{segment_limits};
 
 use program::{Kind, MOST_MINUTES, Move, NO_MOVE, NO_STAGE, Program, Stage};
 
@@ -34,13 +35,15 @@ impl<'a> Schedule<'a> {
 
 // A move lasts a week at most.
 fn within_a_week(minutes: u32) -> u16
-    ensures { result ≡ within_aWeek minutes }
+    ensures { result ≡ within_a_week minutes }
 {
     minutes.min(MOST_MINUTES as u32) as u16
 }
 
 impl<'a> Program for Schedule<'a> {
     ghost meaning = { λ x. segment_prog x.segments.now };
+
+    ghost limits = { λ x. segment_limits x.segments.now x.few };
 
     fn stage_count(&self) -> usize {
         2 * self.segments.len()

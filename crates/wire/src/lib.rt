@@ -4,7 +4,7 @@
 
 ghost use Rattle.std.specs.Prelude.{◌≤◌, IfOk};
 
-use check::check;
+use checker::check;
 use program::{Program, Store};
 use std::alloc::{AllocError, Global};
 use stores::tray::Tray;

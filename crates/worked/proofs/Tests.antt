@@ -21,10 +21,10 @@ use Rattle.reader.specs.Grammar.{Reading}
 use Rattle.reader.specs.Answer.{longest}
 use Rattle.tally.specs.Walks.{Has}
 use Rattle.sheet.proofs.Sets.{timed_move_at, sound_within}
-use Rattle.check.specs.Outcomes.{Onward, AllOnward, Cycle, Checkable}
-use Rattle.check.specs.Checks.{Reads}
-use Rattle.check.proofs.Cycles.{cycle_next, has_place}
-use Rattle.check.proofs.Finds.{no-cycle}
+use Rattle.checker.specs.Outcomes.{Onward, AllOnward, Cycle, Checkable}
+use Rattle.checker.specs.Checks.{Reads}
+use Rattle.checker.proofs.Cycles.{cycle_next, has_place}
+use Rattle.checker.proofs.Finds.{no_cycle}
 
 -- The stages that a list of tests passes.
 
@@ -116,8 +116,8 @@ module _ (p : Prog) where
   abbrev pub limits? : Bool
   limits? = leb n most_stages and leb (length p.moves) most_moves and all_below (length p.moves) allowed?
 
-  pub limits-if : T limits? → Limits p
-  limits-if t =
+  pub limits_if : T limits? → Limits p
+  limits_if t =
       let u = and_r (leb n most_stages) _ t in
       record {
         few_stages = leb→le n most_stages (and_l (leb n most_stages) _ t);
@@ -140,21 +140,21 @@ module _ (p : Prog) where
   in_graph s l = subst (λ x. s < x) (sym (length-map p.stages timed_stage)) l
 
   -- a move of the graph that leaves s is one of the program
-  onward-if : (s : ℕ) → (m : ℕ) × (m < timed.count g) × ((timed.move_at g m).leaves ≡ s) → Onward p s
-  onward-if s o =
+  onward_if : (s : ℕ) → (m : ℕ) × (m < timed.count g) × ((timed.move_at g m).leaves ≡ s) → Onward p s
+  onward_if s o =
       let h = subst (λ x. o.0 < x) (length-map p.moves timed_move) o.1 in
       (o.0, h, ap (λ (m : timed.Move). m.leaves) (sym (timed_move_at p.moves o.0 h)) ∙ o.2)
 
-  pub sound-of : T checkable? → Sound g
-  sound-of t = (test_right_lem g).0 (and_r (ltb 0 n) (sound? g) t)
+  pub sound_of : T checkable? → Sound g
+  sound_of t = (test_right_lem g).0 (and_r (ltb 0 n) (sound? g) t)
 
-  pub checkable-if : T checkable? → Checkable p
-  checkable-if t =
-      let sound = sound-of t in
+  pub checkable_if : T checkable? → Checkable p
+  checkable_if t =
+      let sound = sound_of t in
       record {
         some = ltb→lt 0 n (and_l (ltb 0 n) (sound? g) t);
-        onward = λ s l. onward-if s (sound.onward s (in_graph s l));
-        moving = no-cycle p.stages p.moves (sound_within p.stages p.moves sound)
+        onward = λ s l. onward_if s (sound.onward s (in_graph s l));
+        moving = no_cycle p.stages p.moves (sound_within p.stages p.moves sound)
             (λ s l. ⊎_elim (λ e. absurd (moving g sound s (subst (λ (b : Bool). T b) (sym e) tt))) (λ e. e)
             (cases_Bool _));
       }
@@ -171,8 +171,8 @@ module _ (p : Prog) where
   abbrev goes? : ℕ → Bool
   goes? s = into any_move g.moves (table (timed.size g) (λ x. true)) s
 
-  abbrev pub still-at? : ℕ → Bool
-  still-at? s =
+  abbrev pub still_at? : ℕ → Bool
+  still_at? s =
       ltb s n and all_below (timed.size g) goes? and loops? p.moves s and all_below (length p.moves) (only? s)
 
   -- s is the one stage on a cycle of moves that take no time
@@ -209,8 +209,8 @@ module _ (p : Prog) where
       (or_e (non (eqb (move_at p k.0).minutes 0)) (eqb (move_at p k.0).leaves s)
       (all_e (only? s) (length p.moves) all k.0 k.1))
 
-  pub still-at : (s : ℕ) → T (still-at? s) → Still-at s
-  still-at s t =
+  pub still_at : (s : ℕ) → T (still_at? s) → Still-at s
+  still_at s t =
       let u = and_r (ltb s n) _ t in
       let v = and_r (all_below (timed.size g) goes?) _ u in
       let loop = loop-if p.moves s (and_l (loops? p.moves s) _ v) in
@@ -220,7 +220,7 @@ module _ (p : Prog) where
         onward = λ x l.
             let o = into_e any_move every x g.moves
             (all_e goes? (timed.size g) (and_l (all_below (timed.size g) goes?) _ u) x (in_graph x l)) in
-            onward-if x (o.0, o.1, o.2);
+            onward_if x (o.0, o.1, o.2);
         cycle = (loop.0 ∷ [], omega arith, (loop.1, loop.2, loop.3, loop.4));
         only = only_if s (and_r (loops? p.moves s) _ v);
       }

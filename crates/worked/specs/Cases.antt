@@ -12,10 +12,10 @@ use Rattle.program.specs.Graphs.{graph}
 use Rattle.rules.specs.Postorder.{lines_of, last}
 use Rattle.tally.specs.Walks.{Has}
 use Rattle.sheet.specs.Sheets.{bit}
-use Rattle.check.specs.declared.faults.CheckFault.{CheckFault}
-use Rattle.check.specs.Faults.{fault_number, fault_part, fault_stage}
-use Rattle.check.specs.Outcomes.{Memory, Enough}
-use Rattle.check.specs.Checks.{Reads, Check}
+use Rattle.checker.specs.declared.faults.CheckFault.{CheckFault}
+use Rattle.checker.specs.Faults.{fault_number, fault_part, fault_stage}
+use Rattle.checker.specs.Outcomes.{Memory, Enough}
+use Rattle.checker.specs.Checks.{Reads, Check}
 
 pub data Answer : Type 0 where
   -- the check is made, and the rule holds at these stages and no others

@@ -1,7 +1,7 @@
 use Rattle.std.proofs.Common.{◌≤◌, get_or, sym, refl, ◌∙◌, arith, ltb-false, ltb-true}
 use Rattle.signs.proofs.Lexing.{taken, zero_takes, plain_takes, number_found, empty_signs}
 use Rattle.signs.proofs.next_sign.Goals as goal
-use Rattle.signs.proofs.next_sign.Goals.{in-default-2-via-then-this-lt48, in-default-2-via-else-this-lt48+else-this-lt58}
+use Rattle.signs.proofs.next_sign.Goals.{in_default-2-via-then-this-lt48, in_default-2-via-else-this-lt48+else-this-lt58}
 
 pub returns-in_default : goal.returns-in_default
 returns-in_default c = sym c.skip_spaces-text.ensures.same ∙ empty_signs _ (omega (arith, ltb-true))
@@ -28,8 +28,8 @@ returns-in_default-2 c =
     let b = get_or c.skip_spaces-text.result.now 0 0 in
     let no_digit : 48 ≤ b → b ≤ 57 → ⊥ =
     λ low high. elim c.in_default-2.branch [
-      | in-default-2-via-then-this-lt48 w ↦ omega arith
-      | in-default-2-via-else-this-lt48+else-this-lt58 w ↦ omega arith
+      | in_default-2-via-then-this-lt48 w ↦ omega arith
+      | in_default-2-via-else-this-lt48+else-this-lt58 w ↦ omega arith
     ] in
     let p = plain_takes b _ no_digit (λ e. omega arith) c.plain_sign.ensures in
     taken b c.skip_spaces-text.ensures (omega (arith, ltb-false)) refl p

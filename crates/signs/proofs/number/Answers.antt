@@ -3,7 +3,6 @@ use Rattle.std.proofs.lemmas.List.{take_rest}
 use Rattle.signs.specs.Signs.{value, run, cap}
 use Rattle.signs.proofs.Lexing.{value_more, run_more, no_digit}
 use Rattle.signs.proofs.number.Goals as goal
-use Rattle.signs.proofs.number.Goals.{in_default, in-len1-up+in_default-2, in-len1-up+in-default-2·2}
 
 pub loop-text-preserved : goal.loop-text-preserved
 loop-text-preserved c =
@@ -16,20 +15,3 @@ loop-text-preserved c =
       ap (λ xs. drop (run xs) xs) (take_rest t 1) ∙ run_more t l low high ∙ c.loop-text.invariant.1,
       omega arith,
     )
-
-pub returns : goal.returns
-returns c =
-    let t = c.loop-text.text.now in
-    let no : 1 ≤ length t → 48 ≤ get_or t 0 0 → get_or t 0 0 ≤ 57 → ⊥ =
-    λ l low high. elim c.if-text-lt1.branch [
-      | in_default w ↦ omega
-          (arith, ltb-true)
-      | in-len1-up+in_default-2 w ↦ omega arith
-      | in-len1-up+in-default-2·2 w ↦ omega arith
-    ] in
-    let fits : c.loop-text.value ≡ cap c.loop-text.value = omega (arith, c.loop-text.invariant.2) in
-    let h = no_digit c.loop-text.value t no in
-    record {
-      value = fits ∙ sym (ap cap h.0) ∙ c.loop-text.invariant.0;
-      rest = sym (ap (λ k. drop k t) h.1) ∙ c.loop-text.invariant.1;
-    }

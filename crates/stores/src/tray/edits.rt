@@ -4,6 +4,9 @@ ghost use Rattle.program.specs.Meaning.{empty};
 ghost use Rattle.stores.specs.InTray.{tray_meaning, tray_room, SameLoan, KeepsTidy};
 ghost use Rattle.stores.specs.InTray.{OpenDone, MarkDone, LayDone, CutDone, JoinDone};
 ghost use Rattle.stores.specs.Trays.{Image, SameLengths};
+ghost use Rattle.stores.specs.Records.{stage_layout, move_layout};
+ghost use Rattle.std.proofs.Common.{arith};
+ghost use Rattle.stores.specs.InUse.{length_in_use};
 
 use crate::allowed::{SILENT, allowed_move, allowed_pieces, open_stage};
 use crate::joint::find_joint;
@@ -46,6 +49,12 @@ impl<'a> Tray<'a> {
 impl<'a> Program for Tray<'a> {
     ghost meaning = { tray_meaning };
 
+    ghost limits = { λ x. record {
+      few_stages = omega (arith, length_in_use stage_layout x.stage_count x.areas.now.stages.items);
+      few_moves = omega (arith, length_in_use move_layout x.move_count x.areas.now.moves.items);
+      ends = x.ends;
+    } };
+
     fn stage_count(&self) -> usize {
         self.stage_count
     }
@@ -73,6 +82,8 @@ impl<'a> Program for Tray<'a> {
 
 impl<'a> Store for Tray<'a> {
     ghost room = { tray_room };
+
+    ghost rooms = { λ _. (omega arith, omega arith) };
 
     fn stage_capacity(&self) -> usize {
         (self.areas.stages.len() / STAGE_BYTES).min(MOST_STAGES)

@@ -1,5 +1,5 @@
 use Rattle.std.proofs.Common.{◌++◌, vec_items, codes, sym, ap, ◌∙◌}
-use Rattle.check.specs.Faults as check
+use Rattle.checker.specs.Faults as check
 use Rattle.layout.specs.Faults.{fault_number}
 use Rattle.page.specs.Answers.{field, refused}
 use Rattle.page.proofs.Printed.{two_pieces}

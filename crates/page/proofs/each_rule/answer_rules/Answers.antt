@@ -1,7 +1,7 @@
 use Rattle.std.proofs.Common.{vec_items, arith}
 use Rattle.layout.specs.Lines.{rule}
 use Rattle.layout.proofs.Loads.{shorter}
-use Rattle.page.proofs.Series.{none_answered, few-rules, one-checked, one-refused, all-answered}
+use Rattle.page.proofs.Series.{none_answered, few_rules, one_checked, one_refused, all_answered}
 use Rattle.page.proofs.each_rule.answer_rules.Goals as goal
 
 pub loop-text-init : goal.loop-text-init
@@ -9,19 +9,19 @@ loop-text-init g c = none_answered (g.P.Program.meaning c.args.program.now) c.ar
     (vec_items c.args.out.now)
 
 pub overflow_add-number : goal.overflow_add-number
-overflow_add-number g c = omega (arith, few-rules c.loop-text.invariant)
+overflow_add-number g c = omega (arith, few_rules c.loop-text.invariant)
 
 pub overflow_add-counts : goal.overflow_add-counts
 overflow_add-counts g c = omega (
   arith,
-  few-rules c.loop-text.invariant,
+  few_rules c.loop-text.invariant,
   shorter (rule c.in-Some.text.now) c.in-Some.after.now c.in-Some.ensures.1,
 )
 
 pub overflow_add-counts-else-branch : goal.overflow_add-counts-else-branch
 overflow_add-counts-else-branch g c = omega (
   arith,
-  few-rules c.loop-text.invariant,
+  few_rules c.loop-text.invariant,
   shorter (rule c.in-Some.text.now) c.in-Some.after.now c.in-Some.ensures.1,
 )
 
@@ -35,7 +35,7 @@ loop-text-smaller g c = shorter (rule c.in-Some.text.now) c.in-Some.after.now c.
 pub loop-text-preserved-then-branch : goal.loop-text-preserved-then-branch
 loop-text-preserved-then-branch g c =
     let next = c.in-Some.ensures in
-    one-checked c.loop-text.invariant c.in-Some.text.now c.in-Some.after.now
+    one_checked c.loop-text.invariant c.in-Some.text.now c.in-Some.after.now
     (vec_items c.answer_rule.new.out)
     c.in_ok-answer_rule.field-0 next.0 next.1 c.in_ok-answer_rule.ensures
     c.if-branch.true
@@ -43,10 +43,10 @@ loop-text-preserved-then-branch g c =
 pub loop-text-preserved : goal.loop-text-preserved
 loop-text-preserved g c =
     let next = c.in-Some.ensures in
-    one-refused c.loop-text.invariant c.in-Some.text.now c.in-Some.after.now
+    one_refused c.loop-text.invariant c.in-Some.text.now c.in-Some.after.now
     (vec_items c.answer_rule.new.out)
     c.in_ok-answer_rule.field-0 next.0 next.1 c.in_ok-answer_rule.ensures
     c.if-branch.false
 
 pub returns : goal.returns
-returns g c = all-answered c.loop-text.invariant c.in_default.ensures
+returns g c = all_answered c.loop-text.invariant c.in_default.ensures

@@ -1,11 +1,11 @@
-use Rattle.settle.proofs.Greatest.{endless-left}
+use Rattle.settle.proofs.Greatest.{endless_left}
 use Rattle.settle.proofs.endless.keep_endless.Goals as goal
 
 pub returns : goal.returns
 returns c =
     let r = c.of-removal.ensures in
     record {
-      left = endless-left c.args.stages.now c.args.moves.now c.requires.chains.leaves.within c.args.sort
+      left = endless_left c.args.stages.now c.args.moves.now c.requires.chains.leaves.within c.args.sort
           c.args.set.now c.of-removal.new.set c.of-removal.result r.shrinks r.watching;
       above = r.rest;
     }

@@ -1,13 +1,13 @@
 use Rattle.std.proofs.Common.{◌≡◌, ℕ, ◌<◌, sym, ap, ◌∙◌, zero-add, arith}
 use Rattle.tally.specs.Walks.{among}
 use Rattle.tally.specs.Rounds.{begins, entry}
-use Rattle.tally.proofs.Sweeps.{begins-partly, still-of-all}
+use Rattle.tally.proofs.Sweeps.{begins_partly, still_of_all}
 use Rattle.settle.specs.Tended.{Due}
-use Rattle.settle.proofs.Tended.{tended-none, partly_same}
+use Rattle.settle.proofs.Tended.{tended_none, partly_same}
 use Rattle.settle.proofs.table.by_queue.Goals as goal
 
-pub line-up-requires : goal.line-up-requires
-line-up-requires g c = record {
+pub line_up-requires : goal.line_up-requires
+line_up-requires g c = record {
   chains = c.requires.chains;
   pass = c.requires.pass;
   goals = c.requires.goals;
@@ -20,20 +20,20 @@ flow-requires g c =
     let moves = c.args.moves.now in
     let goals = among c.args.goals.now in
     let within = c.requires.chains.enters.within in
-    let table = entry K c.begin-row.new.table in
+    let table = entry K c.begin_row.new.table in
     record {
       linked = c.requires.chains.enters;
       pass = c.requires.pass;
       room = omega arith;
-      lined = c.line-up.ensures.lined;
-      tended = tended-none K g.met.T.Tally.lawful moves (among c.args.pass.now) goals table
-          (Due moves c.line-up.new.queue)
-          (λ k l. ap table (sym (zero-add _)) ∙ c.begin-row.ensures.written _ (within k l).1)
-          (λ k l t. c.line-up.ensures.wait c.if-line-up.true _ (within k l).1 t);
+      lined = c.line_up.ensures.lined;
+      tended = tended_none K g.met.T.Tally.lawful moves (among c.args.pass.now) goals table
+          (Due moves c.line_up.new.queue)
+          (λ k l. ap table (sym (zero-add _)) ∙ c.begin_row.ensures.written _ (within k l).1)
+          (λ k l t. c.line_up.ensures.wait c.if-line_up.true _ (within k l).1 t);
     }
 
-pub returns-then-line-up : goal.returns-then-line-up
-returns-then-line-up g c =
+pub returns-then-line_up : goal.returns-then-line_up
+returns-then-line_up g c =
     let K = g.T.Tally.algebra in
     let laws = g.met.T.Tally.lawful in
     let n = c.args.n in
@@ -41,15 +41,15 @@ returns-then-line-up g c =
     let pass = among c.args.pass.now in
     let goals = among c.args.goals.now in
     let within = c.requires.chains.enters.within in
-    let begun = entry K c.begin-row.new.table in
+    let begun = entry K c.begin_row.new.table in
     let begin : (s : ℕ) → s < n → begins K goals s ≡ begun s = λ s l.
-    sym (ap begun (sym (zero-add s)) ∙ c.begin-row.ensures.written s l) in
+    sym (ap begun (sym (zero-add s)) ∙ c.begin_row.ensures.written s l) in
     record {
-      above = λ j h. c.flow.ensures.above j h ∙ c.begin-row.ensures.above j (omega arith);
+      above = λ j h. c.flow.ensures.above j h ∙ c.begin_row.ensures.above j (omega arith);
       all = λ e.
-          still-of-all K laws n moves within pass goals (entry K c.flow.new.table)
+          still_of_all K laws n moves within pass goals (entry K c.flow.new.table)
           (c.flow.ensures.partly goals
           (partly_same K n moves pass goals (begins K goals) begun begin
-          (begins-partly K laws n moves within pass goals)))
+          (begins_partly K laws n moves within pass goals)))
           (c.flow.ensures.still e);
     }

@@ -1,20 +1,20 @@
 use Rattle.std.proofs.Common.{◌∙◌, inl, inr, ⊎_elim, arith}
 use Rattle.tally.specs.Walks.{among}
 use Rattle.tally.specs.Rounds.{entry}
-use Rattle.settle.proofs.Tended.{tended-still}
+use Rattle.settle.proofs.Tended.{tended_still}
 use Rattle.settle.proofs.table.flow.Goals as goal
 
-pub returns-in-default : goal.returns-in-default
-returns-in-default g c =
+pub returns-in_default : goal.returns-in_default
+returns-in_default g c =
     let K = g.T.Tally.algebra in
     let inv = c.loop-turn.invariant in
     record {
       partly = inv.1;
       above = inv.2;
       still = λ e.
-          tended-still K g.met.T.Tally.lawful c.args.moves.now (among c.args.pass.now)
+          tended_still K g.met.T.Tally.lawful c.args.moves.now (among c.args.pass.now)
           (entry K c.loop-turn.table)
-          (λ k l. ⊎_elim (λ nothing. inl nothing) (λ w. absurd (c.in-default.ensures _ w)) (inv.3 k l));
+          (λ k l. ⊎_elim (λ nothing. inl nothing) (λ w. absurd (c.in_default.ensures _ w)) (inv.3 k l));
     }
 
 pub pull-requires : goal.pull-requires

@@ -7,5 +7,5 @@ abbrev pub invariant-loop-done : goal.invariant-loop-done
 invariant-loop-done l =
     let n = length l.stages in
     (row n l.set
-    ≡ endless (graph_of l.stages l.moves) (sort_of l.sort) (row n l.initial.set) l.-done)
+    ≡ endless (graph_of l.stages l.moves) (sort_of l.sort) (row n l.initial.set) l._done)
     × RestKept n l.initial.set l.set

@@ -13,7 +13,7 @@ pub loop-m-preserved : goal.loop-m-preserved
 loop-m-preserved c =
     let n = c.args.n in
     let xs = c.loop-m.has in
-    let ys = c.mark-one.new.has in
+    let ys = c.mark_one.new.has in
     let moves = c.args.moves.now in
     let sort = sort_of c.args.sort in
     let set = row n c.args.set.now in
@@ -25,14 +25,14 @@ loop-m-preserved c =
           into_step sort set (timed_move m) (map timed_move (drop (i + 1) moves)) s (among xs s) (among ys s)
           (λ e.
           subst (λ (z : ℕ). among ys z ≡ either (among xs z) (both (sort (timed_move m)) (at set m.enters))) e
-          (c.mark-one.ensures.marked
+          (c.mark_one.ensures.marked
           ∙ ap (λ z. either (among xs m.leaves) (both (sort (timed_move m)) z))
           (sym (row_at n c.args.set.now m.enters within.1))))
-          (λ ne. ap (ltb 0) (c.mark-one.ensures.others s (λ e. ne (sym e))))
+          (λ ne. ap (ltb 0) (c.mark_one.ensures.others s (λ e. ne (sym e))))
           ∙ ap (either (among xs s)) (sym (at_drop_more (λ (ms : List Move). left ms s) moves i no_move
           c.loop-m-test.true))
           ∙ c.loop-m.invariant.0 s h),
-      (λ j h. c.mark-one.ensures.others j (λ e. omega (arith, within.0)) ∙ c.loop-m.invariant.1 j h),
+      (λ j h. c.mark_one.ensures.others j (λ e. omega (arith, within.0)) ∙ c.loop-m.invariant.1 j h),
     )
 
 pub returns : goal.returns

@@ -16,9 +16,9 @@ returns c =
           row_stages stages c.thin.new.set (λ (s : ℕ). both (at (row n was) s) (enters s))
           (λ s h.
           c.thin.ensures.thinned s h
-          ∙ ap (λ x. both x (among c.mark-into.new.has s)) (sym (row_at n was s h))
+          ∙ ap (λ x. both x (among c.mark_into.new.has s)) (sym (row_at n was s h))
           ∙ ap (both (at (row n was) s))
-          (c.mark-into.ensures.marked s h ∙ ap (λ x. either (ltb 0 x) (enters s)) (c.erase.ensures.erased s h)));
+          (c.mark_into.ensures.marked s h ∙ ap (λ x. either (ltb 0 x) (enters s)) (c.erase.ensures.erased s h)));
       above = c.thin.ensures.above;
       told = λ t. table_same (among was) (among c.thin.new.set) n (c.thin.ensures.told t);
     }

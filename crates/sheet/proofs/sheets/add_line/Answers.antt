@@ -11,12 +11,12 @@ returns c =
     let sheet = c.args.sheet.now in
     record {
       added = λ s h.
-          c.write-column.ensures.written s h
+          c.write_column.ensures.written s h
           ∙ ap (λ b. get_or sheet s 0 + cond b (2 ^ c.args.k) 0)
-          (in_row n c.line-row.new.out (line_list p (column n sheet) c.args.line) c.line-row.ensures.is
+          (in_row n c.line_row.new.out (line_list p (column n sheet) c.args.line) c.line_row.ensures.is
           s h);
-      above = c.write-column.ensures.above;
-      spent-reached = c.line-row.ensures.spent-reached;
-      spent-shortest = c.line-row.ensures.spent-shortest;
-      spent-longest = c.line-row.ensures.spent-longest;
+      above = c.write_column.ensures.above;
+      spent_reached = c.line_row.ensures.spent_reached;
+      spent_shortest = c.line_row.ensures.spent_shortest;
+      spent_longest = c.line_row.ensures.spent_longest;
     }

@@ -9,7 +9,7 @@ use Rattle.sheet.specs.Sheets.{bit, column, line_list}
 use Rattle.rules.specs.Lines.{most_lines, rule_at}
 use Rattle.rules.proofs.Ruled.{formed_more}
 use Rattle.sheet.proofs.Sets.{table_stages, sound_within}
-use Rattle.sheet.proofs.Bits.{column-kept, column-new, below_new}
+use Rattle.sheet.proofs.Bits.{column_kept, column_new, below_new}
 use Rattle.sheet.proofs.Ruled.{column_is}
 use Rattle.sheet.proofs.sheets.check_lines.Goals as goal
 
@@ -20,35 +20,35 @@ loop-k-preserved c =
     let lines = c.args.lines.now in
     let k = c.loop-k.k in
     let was = c.loop-k.sheet in
-    let after = c.add-line.new.sheet in
+    let after = c.add_line.new.sheet in
     let L = line_list p (column n was) (get_or lines k One) in
     let done = c.loop-k.invariant.0 in
-    let new = c.add-line.ensures in
+    let new = c.add_line.ensures in
     let formed = c.requires.formed k c.loop-k-test.true in (
       (λ j h.
           ⊎_elim
           (λ e.
-          ap (column n after) e ∙ column-new n k was after L new.added c.loop-k.invariant.1
+          ap (column n after) e ∙ column_new n k was after L new.added c.loop-k.invariant.1
           ∙ table_stages (at L) c.args.stages.now
           ∙ column_is p lines k (column n was) c.loop-k-test.true formed done
           ∙ ap (λ x. where_holds p (rule_at lines x)) (sym e))
-          (λ ne. column-kept n k was after L new.added j (omega arith) ∙ done j (omega arith))
+          (λ ne. column_kept n k was after L new.added j (omega arith) ∙ done j (omega arith))
           (cases_eq j k)),
       below_new n k was after L new.added c.loop-k.invariant.1,
       (λ i h. new.above i h ∙ c.loop-k.invariant.2 i h),
       record {
-        cleared = new.spent-reached.cleared;
-        rest = λ i h. new.spent-reached.rest i h
+        cleared = new.spent_reached.cleared;
+        rest = λ i h. new.spent_reached.rest i h
             ∙ c.loop-k.invariant.3.rest i h;
       },
       record {
-        cleared = new.spent-shortest.cleared;
-        rest = λ i h. new.spent-shortest.rest i h
+        cleared = new.spent_shortest.cleared;
+        rest = λ i h. new.spent_shortest.rest i h
             ∙ c.loop-k.invariant.4.rest i h;
       },
       record {
-        cleared = new.spent-longest.cleared;
-        rest = λ i h. new.spent-longest.rest i h
+        cleared = new.spent_longest.cleared;
+        rest = λ i h. new.spent_longest.rest i h
             ∙ c.loop-k.invariant.5.rest i h;
       },
     )
@@ -73,25 +73,25 @@ returns c =
             no_other = λ s h. subst (λ x. get_or after s 0 < 2 ^ x) ends (c.loop-k.invariant.1 s h);
             rest = λ i h. c.loop-k.invariant.2 i h ∙ c.erase.ensures.above i h;
           };
-      spent-reached = record {
+      spent_reached = record {
         cleared = c.loop-k.invariant.3.cleared;
         rest = λ i h. c.loop-k.invariant.3.rest i h
             ∙ c.clear.ensures.above i h;
       };
-      spent-shortest = record {
+      spent_shortest = record {
         cleared = c.loop-k.invariant.4.cleared;
         rest = λ i h. c.loop-k.invariant.4.rest i h
             ∙ c.clear-2.ensures.above i h;
       };
-      spent-longest = record {
+      spent_longest = record {
         cleared = c.loop-k.invariant.5.cleared;
         rest = λ i h. c.loop-k.invariant.5.rest i h
             ∙ c.clear-3.ensures.above i h;
       };
     }
 
-pub add-line-requires : goal.add-line-requires
-add-line-requires c =
+pub add_line-requires : goal.add_line-requires
+add_line-requires c =
     let k = c.loop-k.k in
     record {
       few = c.requires.few;
@@ -101,10 +101,10 @@ add-line-requires c =
           formed_more k most_lines (get_or c.args.lines.now k One) (omega arith) (c.requires.formed k c.loop-k-test.true);
       sheet = omega arith;
       below = c.loop-k.invariant.1;
-      room-reached = omega arith;
-      room-shortest = omega arith;
-      room-longest = omega arith;
-      blank-reached = c.loop-k.invariant.3.cleared;
-      blank-shortest = c.loop-k.invariant.4.cleared;
-      blank-longest = c.loop-k.invariant.5.cleared;
+      room_reached = omega arith;
+      room_shortest = omega arith;
+      room_longest = omega arith;
+      blank_reached = c.loop-k.invariant.3.cleared;
+      blank_shortest = c.loop-k.invariant.4.cleared;
+      blank_longest = c.loop-k.invariant.5.cleared;
     }

@@ -15,11 +15,11 @@ returns-in-One c =
     let col = column n c.args.sheet.now in
     record {
       is =
-          row_stages stages c.open-row.new.out (λ (s : ℕ). open? p s) c.open-row.ensures.is
+          row_stages stages c.open_row.new.out (λ (s : ℕ). open? p s) c.open_row.ensures.is
           ∙ ap (line_list p col) (sym c.in-One.is);
-      spent-reached = unspent reach_algebra.none n c.args.reached.now c.requires.blank-reached;
-      spent-shortest = unspent shortest_algebra.none n c.args.shortest.now c.requires.blank-shortest;
-      spent-longest = unspent longest_algebra.none n c.args.longest.now c.requires.blank-longest;
+      spent_reached = unspent reach_algebra.none n c.args.reached.now c.requires.blank_reached;
+      spent_shortest = unspent shortest_algebra.none n c.args.shortest.now c.requires.blank_shortest;
+      spent_longest = unspent longest_algebra.none n c.args.longest.now c.requires.blank_longest;
     }
 
 pub returns-in-Letter : goal.returns-in-Letter
@@ -30,12 +30,12 @@ returns-in-Letter c =
     let col = column n c.args.sheet.now in
     record {
       is =
-          row_stages stages c.letter-row.new.out (λ (s : ℕ). both (open? p s)
-          (marked p s c.in-Letter.letter)) c.letter-row.ensures
+          row_stages stages c.letter_row.new.out (λ (s : ℕ). both (open? p s)
+          (marked p s c.in-Letter.letter)) c.letter_row.ensures
           ∙ ap (line_list p col) (sym c.in-Letter.is);
-      spent-reached = unspent reach_algebra.none n c.args.reached.now c.requires.blank-reached;
-      spent-shortest = unspent shortest_algebra.none n c.args.shortest.now c.requires.blank-shortest;
-      spent-longest = unspent longest_algebra.none n c.args.longest.now c.requires.blank-longest;
+      spent_reached = unspent reach_algebra.none n c.args.reached.now c.requires.blank_reached;
+      spent_shortest = unspent shortest_algebra.none n c.args.shortest.now c.requires.blank_shortest;
+      spent_longest = unspent longest_algebra.none n c.args.longest.now c.requires.blank_longest;
     }
 
 pub returns-in-Not : goal.returns-in-Not
@@ -46,12 +46,12 @@ returns-in-Not c =
     let col = column n c.args.sheet.now in
     record {
       is =
-          row_stages stages c.not-row.new.out (λ (s : ℕ). both (open? p s) (non (at (col c.in-Not.i) s)))
-          c.not-row.ensures
+          row_stages stages c.not_row.new.out (λ (s : ℕ). both (open? p s) (non (at (col c.in-Not.i) s)))
+          c.not_row.ensures
           ∙ ap (line_list p col) (sym c.in-Not.is);
-      spent-reached = unspent reach_algebra.none n c.args.reached.now c.requires.blank-reached;
-      spent-shortest = unspent shortest_algebra.none n c.args.shortest.now c.requires.blank-shortest;
-      spent-longest = unspent longest_algebra.none n c.args.longest.now c.requires.blank-longest;
+      spent_reached = unspent reach_algebra.none n c.args.reached.now c.requires.blank_reached;
+      spent_shortest = unspent shortest_algebra.none n c.args.shortest.now c.requires.blank_shortest;
+      spent_longest = unspent longest_algebra.none n c.args.longest.now c.requires.blank_longest;
     }
 
 pub returns-in-And : goal.returns-in-And
@@ -62,12 +62,12 @@ returns-in-And c =
     let col = column n c.args.sheet.now in
     record {
       is =
-          row_stages stages c.pair-row.new.out (λ (s : ℕ). both (at (col c.in-And.i) s)
-          (at (col c.in-And.j) s)) c.pair-row.ensures
+          row_stages stages c.pair_row.new.out (λ (s : ℕ). both (at (col c.in-And.i) s)
+          (at (col c.in-And.j) s)) c.pair_row.ensures
           ∙ ap (line_list p col) (sym c.in-And.is);
-      spent-reached = unspent reach_algebra.none n c.args.reached.now c.requires.blank-reached;
-      spent-shortest = unspent shortest_algebra.none n c.args.shortest.now c.requires.blank-shortest;
-      spent-longest = unspent longest_algebra.none n c.args.longest.now c.requires.blank-longest;
+      spent_reached = unspent reach_algebra.none n c.args.reached.now c.requires.blank_reached;
+      spent_shortest = unspent shortest_algebra.none n c.args.shortest.now c.requires.blank_shortest;
+      spent_longest = unspent longest_algebra.none n c.args.longest.now c.requires.blank_longest;
     }
 
 pub returns-in-Or : goal.returns-in-Or
@@ -78,10 +78,10 @@ returns-in-Or c =
     let col = column n c.args.sheet.now in
     record {
       is =
-          row_stages stages c.pair-row-in-Or.new.out (λ (s : ℕ). either (at (col c.in-Or.i) s)
-          (at (col c.in-Or.j) s)) c.pair-row-in-Or.ensures
+          row_stages stages c.pair_row-in-Or.new.out (λ (s : ℕ). either (at (col c.in-Or.i) s)
+          (at (col c.in-Or.j) s)) c.pair_row-in-Or.ensures
           ∙ ap (line_list p col) (sym c.in-Or.is);
-      spent-reached = unspent reach_algebra.none n c.args.reached.now c.requires.blank-reached;
-      spent-shortest = unspent shortest_algebra.none n c.args.shortest.now c.requires.blank-shortest;
-      spent-longest = unspent longest_algebra.none n c.args.longest.now c.requires.blank-longest;
+      spent_reached = unspent reach_algebra.none n c.args.reached.now c.requires.blank_reached;
+      spent_shortest = unspent shortest_algebra.none n c.args.shortest.now c.requires.blank_shortest;
+      spent_longest = unspent longest_algebra.none n c.args.longest.now c.requires.blank_longest;
     }

@@ -12,5 +12,5 @@ loop-s-preserved c =
     let letter = c.args.letter in
     let stages = c.args.stages.now in
     let same = ap (λ (x : Stage). bit letter x.marks) (timed_stage_at stages i c.loop-s-test.true) in
-    written_more (λ (s : ℕ). marked (graph_of stages []) s letter) c.loop-s.out i c.has-mark.result (omega arith)
-    (c.has-mark.ensures ∙ sym same) c.loop-s.invariant
+    written_more (λ (s : ℕ). marked (graph_of stages []) s letter) c.loop-s.out i c.has_mark.result (omega arith)
+    (c.has_mark.ensures ∙ sym same) c.loop-s.invariant

@@ -10,7 +10,7 @@ pub returns : goal.returns
 returns c s h =
     let n = length c.args.stages.now in
     c.combine.ensures.is s h
-    ∙ ap (λ x. both x (non (among c.read-column.new.out s))) (c.open-row.ensures.is s h)
+    ∙ ap (λ x. both x (non (among c.read_column.new.out s))) (c.open_row.ensures.is s h)
     ∙ ap (λ x. both (open? (graph_of c.args.stages.now []) s) (non x))
-    (in_row n c.read-column.new.out (column n c.args.sheet.now c.args.i) c.read-column.ensures
+    (in_row n c.read_column.new.out (column n c.args.sheet.now c.args.i) c.read_column.ensures
     s h)

@@ -11,9 +11,9 @@ returns c s h =
     let n = c.args.n in
     let sheet = c.args.sheet.now in
     let op = c.args.op in
-    let left = c.read-column.new.out in
-    let right = c.read-column-2.new.out in
+    let left = c.read_column.new.out in
+    let right = c.read_column-2.new.out in
     c.combine.ensures.is s h
-    ∙ ap (λ x. op_of op x (among left s)) (in_row n right (column n sheet c.args.j) c.read-column-2.ensures s h)
+    ∙ ap (λ x. op_of op x (among left s)) (in_row n right (column n sheet c.args.j) c.read_column-2.ensures s h)
     ∙ ap (op_of op (at (column n sheet c.args.j) s)) (in_row n left (column n sheet c.args.i)
-    c.read-column.ensures s h)
+    c.read_column.ensures s h)

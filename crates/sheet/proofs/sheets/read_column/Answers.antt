@@ -7,7 +7,7 @@ use Rattle.sheet.proofs.sheets.read_column.Goals as goal
 pub loop-s-preserved : goal.loop-s-preserved
 loop-s-preserved c =
     written_more (λ (s : ℕ). bit c.args.k (get_or c.args.sheet.now s 0)) c.loop-s.out c.loop-s.s
-    c.bit-of.result (omega arith) c.bit-of.ensures c.loop-s.invariant
+    c.bit_of.result (omega arith) c.bit_of.ensures c.loop-s.invariant
 
 pub returns : goal.returns
 returns c =

@@ -7,8 +7,8 @@ returns g c =
     let n = c.args.n in
     let filled = c.tallies.ensures in
     record {
-      is = λ s h. c.tell-row.ensures.is s h ∙ ap (g.T.Told.tells c.args.minutes) (filled.results s h);
-      above = c.tell-row.ensures.above;
+      is = λ s h. c.tell_row.ensures.is s h ∙ ap (g.T.Told.tells c.args.minutes) (filled.results s h);
+      above = c.tell_row.ensures.above;
       spent =
           record {
             cleared = λ i h.

@@ -2,31 +2,31 @@ use Rattle.std.proofs.Common.{ap, ◌∙◌, arith}
 use Rattle.tally.specs.Walks.{among}
 use Rattle.sheet.specs.Rows.{both, either}
 use Rattle.tctl.specs.Checker.{non}
-use Rattle.sheet.proofs.Cases.{each-least-row}
+use Rattle.sheet.proofs.Cases.{each_least_row}
 use Rattle.sheet.proofs.untils.each_least.Goals as goal
 
 pub returns : goal.returns
 returns c =
-    let shown = c.open-row.new.out in
+    let shown = c.open_row.new.out in
     let v = c.combine.new.out in
     record {
       is =
-          each-least-row c.args.stages.now c.args.moves.now c.requires.within c.args.f.now
-          c.args.g.now c.args.c (omega arith) shown c.before-goal.new.out c.neither.new.out
-          c.tell.new.out c.keep-endless.new.set v c.combine-3.new.out
-          c.last-before.new.out c.combine-5.new.out
-          c.open-row.ensures.is
-          c.before-goal.ensures
+          each_least_row c.args.stages.now c.args.moves.now c.requires.within c.args.f.now
+          c.args.g.now c.args.c (omega arith) shown c.before_goal.new.out c.neither.new.out
+          c.tell.new.out c.keep_endless.new.set v c.combine-3.new.out
+          c.last_before.new.out c.combine-5.new.out
+          c.open_row.ensures.is
+          c.before_goal.ensures
           c.neither.ensures
           c.tell.ensures.is
-          c.keep-endless.ensures.left
+          c.keep_endless.ensures.left
           c.combine.ensures.is
           (λ s h. c.combine-3.ensures.is s h ∙ ap (either (non (among shown s))) (c.combine-2.ensures.is s h))
-          c.last-before.ensures
+          c.last_before.ensures
           (λ s h.
           c.combine-5.ensures.is s h
           ∙ ap (λ x. both (among shown s) (non x)) (c.combine-4.ensures.is s h ∙ ap (either (among v s))
-          (c.tell-before.ensures.is s h)));
-      spent-reached = c.tell.ensures.spent;
-      spent-shortest = c.tell-before.ensures.spent;
+          (c.tell_before.ensures.is s h)));
+      spent_reached = c.tell.ensures.spent;
+      spent_shortest = c.tell_before.ensures.spent;
     }

@@ -7,29 +7,29 @@ use Rattle.tctl.specs.Checker.{non, endless, any_move}
 use Rattle.sheet.specs.Rows.{graph_of, both, either}
 use Rattle.sheet.specs.Told.{long_from}
 use Rattle.sheet.proofs.Sets.{table_same}
-use Rattle.sheet.proofs.Cases.{each-most-row}
+use Rattle.sheet.proofs.Cases.{each_most_row}
 use Rattle.sheet.proofs.untils.each_most.Goals as goal
 
 pub returns : goal.returns
 returns c =
     let p = graph_of c.args.stages.now c.args.moves.now in
     let n = length c.args.stages.now in
-    let shown = c.open-row.new.out in
-    let row_n = c.before-goal.new.out in
+    let shown = c.open_row.new.out in
+    let row_n = c.before_goal.new.out in
     let fails = c.tell.new.out in
-    let ever = c.keep-endless.new.set in
+    let ever = c.keep_endless.new.set in
     let left = c.combine-2.new.out in
     let all = replicate most_stages 1 in
     record {
       is =
-          each-most-row c.args.stages.now c.args.moves.now c.requires.within c.args.f.now
+          each_most_row c.args.stages.now c.args.moves.now c.requires.within c.args.f.now
           c.args.g.now c.args.c (omega arith) shown row_n c.neither.new.out fails ever left all
           c.combine-5.new.out
-          c.open-row.ensures.is
-          c.before-goal.ensures
+          c.open_row.ensures.is
+          c.before_goal.ensures
           c.neither.ensures
           c.tell.ensures.is
-          (c.keep-endless.ensures.left ∙ ap (λ (S : List Bool). endless p any_move S n)
+          (c.keep_endless.ensures.left ∙ ap (λ (S : List Bool). endless p any_move S n)
           (table_same (among c.combine.new.out) (among row_n) n c.combine.ensures.is))
           c.combine-2.ensures.is
           (λ s h. ap (ltb 0) (get_or-replicate most_stages s 1 0 (omega arith)))
@@ -43,6 +43,6 @@ returns c =
           (c.tell-2.ensures.is s h
           ∙ ap (λ x. long_from x (tallied longest_algebra c.args.moves.now (among left) (among all) n s))
           (add-one c.args.c)))));
-      spent-reached = c.tell.ensures.spent;
-      spent-longest = c.tell-2.ensures.spent;
+      spent_reached = c.tell.ensures.spent;
+      spent_longest = c.tell-2.ensures.spent;
     }

@@ -3,28 +3,28 @@ use Rattle.program.specs.declared.Stage.{Stage}
 use Rattle.program.specs.declared.Move.{Move}
 use Rattle.program.specs.Meaning.{stage_at}
 use Rattle.program.specs.Edits.{is_open}
-use Rattle.stores.proofs.Joints.{tidy-apart, tidy-short}
+use Rattle.stores.proofs.Joints.{tidy_apart, tidy_short}
 use Rattle.stores.proofs.joint.find_joint.Goals as goal
-use Rattle.stores.proofs.joint.find_joint.Goals.{then-into-out-of-via-then-into-out-of}
-use Rattle.stores.proofs.joint.find_joint.Goals.{then-into-out-of-via-else-into-out-of+then-minutes}
+use Rattle.stores.proofs.joint.find_joint.Goals.{then-into-out_of-via-then-into-out_of}
+use Rattle.stores.proofs.joint.find_joint.Goals.{then-into-out_of-via-else-into-out_of+then-minutes}
 
 -- A tidy program does not come here: its two moves are apart, and together not too long.
-pub returns-then-into-out-of : goal.returns-then-into-out-of
-returns-then-into-out-of g c t =
+pub returns-then-into-out_of : goal.returns-then-into-out_of
+returns-then-into-out_of g c t =
     let p = g.P.Program.meaning c.args.program.now in
-    let s = c.stage-count-stages.result - 1 in
-    let last : length p.stages ≡ suc s = omega (arith, c.stage-count-stages.ensures) in
+    let s = c.stage_count-stages.result - 1 in
+    let last : length p.stages ≡ suc s = omega (arith, c.stage_count-stages.ensures) in
     let hushed : is_open (stage_at p s).kind ≡ false =
     ap (λ (x : Stage). is_open x.kind) (sym c.stage.ensures) ∙ ap is_open c.in-Silent.is in
     let enters = c.in-Some.ensures in
-    let leaves = c.in-Some-only-move.ensures in
-    let short = tidy-short p s _ _ last hushed enters leaves t in
-    let first = ap (λ (m : Move). m.minutes) c.move-at-first.ensures in
-    let second = ap (λ (m : Move). m.minutes) c.move-at-second.ensures in
+    let leaves = c.in-Some-only_move.ensures in
+    let short = tidy_short p s _ _ last hushed enters leaves t in
+    let first = ap (λ (m : Move). m.minutes) c.move_at-first.ensures in
+    let second = ap (λ (m : Move). m.minutes) c.move_at-second.ensures in
     let never : ⊥ =
-    elim c.then-into-out-of.branch [
-      | then-into-out-of-via-then-into-out-of w ↦
-          tidy-apart p s _ _ last hushed enters leaves t w.if-into-out-of.true
-      | then-into-out-of-via-else-into-out-of+then-minutes w ↦ omega (arith, w.if-minutes.true)
+    elim c.then-into-out_of.branch [
+      | then-into-out_of-via-then-into-out_of w ↦
+          tidy_apart p s _ _ last hushed enters leaves t w.if-into-out_of.true
+      | then-into-out_of-via-else-into-out_of+then-minutes w ↦ omega (arith, w.if-minutes.true)
     ] in
     absurd never

@@ -3,7 +3,7 @@ use Rattle.std.proofs.lemmas.List.{at_drop_more, at_drop_all}
 use Rattle.program.specs.declared.Move.{Move}
 use Rattle.program.specs.Meaning.{no_move}
 use Rattle.tally.specs.Walks.{among}
-use Rattle.tally.proofs.Rounds.{rest, rest-step, rest-none}
+use Rattle.tally.proofs.Rounds.{rest, rest_step, rest_none}
 use Rattle.tally.proofs.rows.pour.Goals as goal
 
 pub loop-m-preserved : goal.loop-m-preserved
@@ -20,7 +20,7 @@ loop-m-preserved g c =
     let m : Move = get_or moves i no_move in
     let within = c.requires.within i c.loop-m-test.true in (
       (λ s h.
-          rest-step K laws pass was m (drop (i + 1) moves) s (get_or xs (n + s) K.none) (get_or ys (n + s) K.none)
+          rest_step K laws pass was m (drop (i + 1) moves) s (get_or xs (n + s) K.none) (get_or ys (n + s) K.none)
           (λ e.
           subst (λ (z : ℕ). get_or ys (n + z) K.none ≡ cond (pass z)
           (K.choice (get_or xs (n + z) K.none) (K.before m.minutes (was m.enters)))
@@ -47,7 +47,7 @@ returns g c =
     let pass = among c.args.pass.now in
     record {
       poured = λ s h.
-          sym (rest-none K laws pass was s (get_or c.loop-m.table (n + s) K.none))
+          sym (rest_none K laws pass was s (get_or c.loop-m.table (n + s) K.none))
           ∙ ap (K.choice (get_or c.loop-m.table (n + s) K.none))
           (sym (at_drop_all (λ (ms : _). rest K laws pass was ms s) moves c.loop-m.m-index
           c.loop-m-test.false))

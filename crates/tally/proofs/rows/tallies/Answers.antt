@@ -1,6 +1,6 @@
 use Rattle.std.proofs.Common.{sym, ◌∙◌, arith}
 use Rattle.tally.specs.Walks.{among}
-use Rattle.tally.proofs.Rounds.{rounds-tally}
+use Rattle.tally.proofs.Rounds.{rounds_tally}
 use Rattle.tally.proofs.rows.tallies.Goals as goal
 
 pub returns : goal.returns
@@ -11,7 +11,7 @@ returns g c =
     record {
       results = λ s h.
           c.clear.ensures.below s h ∙ c.repeat.ensures.results s h
-          ∙ sym (rounds-tally K g.met.T.Tally.lawful c.args.moves.now pass goals c.args.k s);
+          ∙ sym (rounds_tally K g.met.T.Tally.lawful c.args.moves.now pass goals c.args.k s);
       cleared = c.clear.ensures.cleared;
       rest = λ i h. c.clear.ensures.above i h ∙ c.repeat.ensures.above i (omega arith);
     }

@@ -1,7 +1,7 @@
 use Rattle.std.proofs.Common.{ℕ, cond, get_or, sym, ap, ◌∙◌, arith}
 use Rattle.tally.specs.Walks.{among}
 use Rattle.tally.specs.Rounds.{over, begins}
-use Rattle.tally.proofs.Rounds.{over-same}
+use Rattle.tally.proofs.Rounds.{over_same}
 use Rattle.tally.proofs.rows.turn.Goals as goal
 
 pub returns : goal.returns
@@ -20,7 +20,7 @@ returns g c =
           three.copied s h ∙ two.poured s h
           ∙ ap (λ x. K.choice x (cond (pass s) (over K begun moves s) K.none)) (one.written s h)
           ∙ ap (λ x. K.choice (begins K (among c.args.goals.now) s) (cond (pass s) x K.none))
-          (over-same K n begun was one.below moves c.requires.within s);
+          (over_same K n begun was one.below moves c.requires.within s);
       above = λ i h. three.above i (omega arith) ∙ two.above i h ∙ one.above i (omega arith);
       told = λ t s h. sym (one.below s h) ∙ sym (two.below s h) ∙ three.told t s h ∙ sym (three.copied s h);
     }

@@ -6,7 +6,7 @@ use Rattle.settle.specs.declared.removal.Removal.{Removal}
 use Rattle.settle.specs.Chains.{end_at, Right, Linked}
 use Rattle.settle.specs.Removals.{NoneAtOrPast, Watching, Due, Removes}
 use Rattle.settle.proofs.Chains.{chain_more}
-use Rattle.settle.proofs.Removals.{removes-more, watching-more, watching-due, watching-next, none-next}
+use Rattle.settle.proofs.Removals.{removes_more, watching_more, watching_due, watching_next, none_next}
 use Rattle.settle.proofs.removal.Removal.look.Goals as goal
 use Rattle.settle.proofs.removal.Removal.look.Goals.{then-watches, else-watches}
 
@@ -32,7 +32,7 @@ watch-requires c =
       booked = inv.2.booked;
       stage = (subst (λ n. stage < n) (sym inv.2.stages) low, here);
       from = (omega (arith, right.low), right.here);
-      none = none-next c.args.sort moves set stage link _ right (omega arith)
+      none = none_next c.args.sort moves set stage link _ right (omega arith)
           (λ t. c.requires.gone.1 (inv.2.shrinks.inside _ (subst (λ x. T (set x)) (inv.1 (omega arith)) t))) none;
     }
 
@@ -64,8 +64,8 @@ loop-link-preserved c =
           let s = w.watch.new.self in
           subst (λ ws. So ws c.if-watches.self) (sym w.set-is)
           (subst (λ q. So after q) (sym w.self-is) (
-            removes-more sort moves c.args.set.now was after c.args.self.now r s inv.2 re.removes,
-            watching-more sort moves n stage was after r s (Still r) (Next s) re
+            removes_more sort moves c.args.set.now was after c.args.self.now r s inv.2 re.removes,
+            watching_more sort moves n stage was after r s (Still r) (Next s) re
                 (λ j ne. ⊎_elim (λ g. inl (re.gone _ g))
                 (λ o. inr (chain_more Enters moves gone link next right j (λ e. ne (ap (end_at Leaves moves) e)) o)))
                 (λ j g. inl g) (λ other l ne t. inv.3 other l t),
@@ -74,7 +74,7 @@ loop-link-preserved c =
           subst (λ ws. So ws c.if-watches.self) (sym w.set-is)
           (subst (λ q. So was q) (sym w.self-is) (
             inv.2,
-            watching-next sort moves n (among was) r (Still r) (Next r) k
+            watching_next sort moves n (among was) r (Still r) (Next r) k
                 (λ j ne. ⊎_elim (λ g. inl g) (λ o. inr (chain_more Enters moves gone link next right j ne o)))
                 (λ t e. c.watches.ensures.isnt w.if-watches.false t (omega arith)) inv.3,
           ))
@@ -87,7 +87,7 @@ returns c =
     let inv = c.loop-link.invariant in
     record {
       removes = inv.2;
-      watching = watching-due c.args.sort moves c.args.self.now.stages (among c.loop-link.set) c.loop-link.self
+      watching = watching_due c.args.sort moves c.args.self.now.stages (among c.loop-link.set) c.loop-link.self
           (λ j. Due moves c.loop-link.self j ⊎ ((end_at Enters moves j ≡ c.args.gone) × (j < c.loop-link.link)))
           (Due moves c.loop-link.self) (λ j. ⊎_elim (λ g. g) (λ o. absurd (omega (arith, o.1)))) inv.3;
     }

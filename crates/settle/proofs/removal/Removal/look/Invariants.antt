@@ -1,4 +1,4 @@
-use Rattle.std.proofs.Common.{◌≡◌, ℕ, ◌-◌, ◌<◌, ◌≤◌, ◌⊎◌, length}
+use Rattle.std.proofs.Common.{◌≡◌, ◌-◌, ◌<◌, ◌≤◌, ◌⊎◌, length}
 use Rattle.tally.specs.Walks.{among}
 use Rattle.settle.specs.declared.links.End.TheVariants.{Enters}
 use Rattle.settle.specs.Chains.{end_at}

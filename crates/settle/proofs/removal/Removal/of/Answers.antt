@@ -1,14 +1,14 @@
-use Rattle.std.proofs.Common.{◌≡◌, ℕ, ◌<◌, ◌≤◌, ◌⊎◌, List, length, get_or, sym, ◌∙◌, subst, inl, inr, ⊎_elim, arith}
+use Rattle.std.proofs.Common.{◌≡◌, ℕ, ◌<◌, ◌≤◌, ◌⊎◌, List, get_or, sym, ◌∙◌, subst, inl, inr, ⊎_elim, arith}
 use Rattle.tally.specs.Walks.{among}
 use Rattle.settle.specs.declared.links.End.TheVariants.{Leaves, Enters}
 use Rattle.settle.specs.declared.removal.Removal.{Removal}
 use Rattle.settle.specs.Chains.{end_at, Linked}
 use Rattle.settle.specs.Removals.{Watched, Due, Outside, Removed}
-use Rattle.settle.proofs.Removals.{shrinks-more, watching-due}
+use Rattle.settle.proofs.Removals.{shrinks_more, watching_due}
 use Rattle.settle.proofs.removal.Removal.of.Goals as goal
 
-pub watch-all-requires : goal.watch-all-requires
-watch-all-requires c =
+pub watch_all-requires : goal.watch_all-requires
+watch_all-requires c =
     let all = c.new-removal.ensures.all in
     record {
       linked = subst (λ n. Linked Leaves n c.args.moves.now c.args.chains.now.leaves) (sym all) c.requires.chains.leaves;
@@ -23,7 +23,7 @@ look-requires c =
     let n = c.args.n in
     let set = among c.loop-gone.set in
     let r = c.loop-gone.removal in
-    let q = c.next-gone.new.self in
+    let q = c.next_gone.new.self in
     let gone = c.in-Some.gone in
     let inv = c.loop-gone.invariant in
     let looks = c.in-Some.ensures in
@@ -37,7 +37,7 @@ look-requires c =
       booked = looks.booked set inv.1;
       watching = λ stage l t.
           subst (λ (links : List ℕ). Watched sort moves set next stage (get_or links stage 0)) (sym looks.watched)
-          (watching-due sort moves n set r (Due moves r) next
+          (watching_due sort moves n set r (Due moves r) next
           (λ k g. ⊎_elim (λ e. inr e) (λ h. inl h) (looks.others _ g)) inv.2 stage (subst (λ x. stage < x) all l) t);
     }
 
@@ -46,11 +46,11 @@ loop-gone-preserved c =
     let looks = c.in-Some.ensures in
     let inv = c.loop-gone.invariant in
     let removes = c.look.ensures.removes in
-    let all : c.next-gone.new.self.stages ≡ c.args.n = looks.stages ∙ inv.0 in (
+    let all : c.next_gone.new.self.stages ≡ c.args.n = looks.stages ∙ inv.0 in (
       removes.stages ∙ all,
       removes.booked,
       (λ stage l. c.look.ensures.watching stage (subst (λ x. stage < x) (sym all) l)),
-      shrinks-more c.args.sort c.args.moves.now (among c.watch-all.new.set) (among c.loop-gone.set)
+      shrinks_more c.args.sort c.args.moves.now (among c.watch_all.new.set) (among c.loop-gone.set)
           (among c.look.new.set) inv.3 removes.shrinks,
       (λ i h. removes.rest i (subst (λ x. x ≤ i) (sym all) h) ∙ inv.4 i h),
     )
@@ -62,13 +62,13 @@ returns c =
     let after = c.loop-gone.set in
     let r = c.loop-gone.removal in
     let inv = c.loop-gone.invariant in
-    let first = c.watch-all.ensures.removes in
-    let none = c.in-default.ensures in
+    let first = c.watch_all.ensures.removes in
+    let none = c.in_default.ensures in
     subst (λ (q : Removal). Removed sort c.args.n moves c.args.set.now after q) (sym none.1) (record {
-      shrinks = shrinks-more sort moves (among c.args.set.now) (among c.watch-all.new.set) (among after)
+      shrinks = shrinks_more sort moves (among c.args.set.now) (among c.watch_all.new.set) (among after)
           first.shrinks inv.3;
       rest = λ i h. inv.4 i h ∙ first.rest i (subst (λ x. x ≤ i) (sym c.new-removal.ensures.all) h);
       stages = inv.0;
       booked = inv.1;
-      watching = watching-due sort moves c.args.n (among after) r (Due moves r) (λ k. ⊥) (λ k g. none.0 _ g) inv.2;
+      watching = watching_due sort moves c.args.n (among after) r (Due moves r) (λ k. ⊥) (λ k g. none.0 _ g) inv.2;
     })

@@ -1,4 +1,4 @@
-use Rattle.std.proofs.Common.{◌<◌, ◌≤◌, arith}
+use Rattle.std.proofs.Common.{arith}
 use Rattle.tally.specs.Walks.{among}
 use Rattle.settle.proofs.Removals.{room_left, removed}
 use Rattle.settle.proofs.removal.Removal.watch.Goals as goal

@@ -3,7 +3,7 @@ use Rattle.std.proofs.lemmas.Bool.{cases_eq}
 use Rattle.tally.specs.Walks.{among}
 use Rattle.settle.specs.declared.removal.Removal.{Removal}
 use Rattle.settle.specs.Removals.{Watching, Due, Removes}
-use Rattle.settle.proofs.Removals.{removes-more, watching-more}
+use Rattle.settle.proofs.Removals.{removes_more, watching_more}
 use Rattle.settle.proofs.removal.Removal.watch_all.Goals as goal
 use Rattle.settle.proofs.removal.Removal.watch_all.Goals.{then-set-stage-gt0, else-set-stage-gt0}
 
@@ -24,8 +24,8 @@ loop-stage-preserved c =
           let s = w.watch.new.self in
           subst (λ ws. So ws c.if-set-stage-gt0.self) (sym w.set-is)
           (subst (λ q. So after q) (sym w.self-is) (
-            removes-more sort moves c.args.set.now was after c.args.self.now r s inv.0 re.removes,
-            watching-more sort moves (stage + 1) stage was after r s (Due moves r) (Due moves s) re (λ k ne g. re.gone _ g)
+            removes_more sort moves c.args.set.now was after c.args.self.now r s inv.0 re.removes,
+            watching_more sort moves (stage + 1) stage was after r s (Due moves r) (Due moves s) re (λ k ne g. re.gone _ g)
                 (λ k g. g) (λ other l ne t. inv.1 other (omega arith) t),
           ))
       | else-set-stage-gt0 w ↦

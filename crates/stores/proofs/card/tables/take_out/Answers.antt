@@ -2,7 +2,7 @@ use Rattle.std.proofs.Common.{◌≡◌, ◌+◌, ◌-◌, ◌<◌, ◌≤◌, l
 use Rattle.std.specs.List.{remove}
 use Rattle.program.specs.Meaning.{no_move}
 use Rattle.stores.specs.Areas.{shifted}
-use Rattle.stores.proofs.Gaps.{shifted_none, shifted-more, length-shifted, take_shifted_removed}
+use Rattle.stores.proofs.Gaps.{shifted_none, shifted_more, length_shifted, take_shifted_removed}
 use Rattle.stores.proofs.card.tables.take_out.Goals as goal
 
 pub loop-i-init : goal.loop-i-init
@@ -15,7 +15,7 @@ loop-i-preserved c =
     let h : l.i + 1 < length xs = omega arith in (
       l.invariant.0,
       ap (λ ys. set ys l.i (get_or ys (l.i + 1) no_move)) l.invariant.1
-          ∙ shifted-more xs c.args.k 1 l.i l.auto.i no_move h,
+          ∙ shifted_more xs c.args.k 1 l.i l.auto.i no_move h,
     )
 
 pub returns : goal.returns
@@ -33,5 +33,5 @@ returns c =
       records =
           ap (take n) same ∙ take_shifted_removed xs k n from (omega arith) ∙ ap (λ m. remove (take m xs) k) count;
       count = count;
-      len = ap length same ∙ length-shifted xs k 1 n from room;
+      len = ap length same ∙ length_shifted xs k 1 n from room;
     }

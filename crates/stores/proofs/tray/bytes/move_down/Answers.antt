@@ -1,7 +1,7 @@
 use Rattle.std.proofs.Common.{◌≡◌, ◌+◌, ◌<◌, length, get_or, set, refl, ap, ◌∙◌, arith}
 use Rattle.std.proofs.lemmas.List.{get_or_read_under}
 use Rattle.stores.specs.Areas.{shifted}
-use Rattle.stores.proofs.Gaps.{shifted_none, shifted-more}
+use Rattle.stores.proofs.Gaps.{shifted_none, shifted_more}
 use Rattle.stores.proofs.tray.bytes.move_down.Goals as goal
 
 pub loop-i-init : goal.loop-i-init
@@ -18,7 +18,7 @@ loop-i-preserved c =
     let byte = get_or_read_under l.area.items (l.i + by) l.area.len _ 0 c.index.ensures inside long in (
       l.invariant.0,
       ap (set l.area.items l.i) byte ∙ ap (λ ys. set ys l.i (get_or ys (l.i + by) 0)) l.invariant.1
-          ∙ shifted-more bs c.args.at by l.i l.auto.i 0 h,
+          ∙ shifted_more bs c.args.at by l.i l.auto.i 0 h,
     )
 
 pub returns : goal.returns

@@ -7,19 +7,19 @@ use Rattle.stores.proofs.tray.bytes.take_out.Goals as goal
 last_place : (w n k : ℕ) → k < n → w * (n - 1) + w ≡ w * n
 last_place w n k h = let one : n ≡ suc (n - 1) = omega arith in sym (ap (λ x. w * x) one ∙ mul-suc w (n - 1))
 
-pub overflow-mul-last : goal.overflow-mul-last
-overflow-mul-last c =
+pub overflow_mul-last : goal.overflow_mul-last
+overflow_mul-last c =
     let last = last_place c.args.width c.args.count c.args.k c.requires.0 in
     omega (arith, c.requires.1)
 
-pub overflow-mul-width : goal.overflow-mul-width
-overflow-mul-width c =
+pub overflow_mul-width : goal.overflow_mul-width
+overflow_mul-width c =
     let h : c.args.k ≤ c.args.count = omega (arith, c.requires.0) in
     let below : c.args.width * c.args.k ≤ c.args.width * c.args.count = mul-le-mul_left c.args.width h in
     omega (arith, c.requires.1)
 
-pub move-down-requires : goal.move-down-requires
-move-down-requires c =
+pub move_down-requires : goal.move_down-requires
+move_down-requires c =
     let last = last_place c.args.width c.args.count c.args.k c.requires.0 in
     let h : c.args.k ≤ c.args.count - 1 = omega (arith, c.requires.0) in
     (mul-le-mul_left c.args.width h, omega (arith, c.requires.1))
@@ -27,7 +27,7 @@ move-down-requires c =
 pub zero-requires : goal.zero-requires
 zero-requires c =
     let last = last_place c.args.width c.args.count c.args.k c.requires.0 in
-    omega (arith, c.requires.1, c.move-down.ensures.len)
+    omega (arith, c.requires.1, c.move_down.ensures.len)
 
 pub returns : goal.returns
 returns c =
@@ -39,7 +39,7 @@ returns c =
     let long : w * n ≤ length bs = omega (arith, c.requires.1, c.args.area.now.ok.0) in
     record {
       items =
-          c.zero.ensures.items ∙ ap (λ r. put r (w * (n - 1)) (replicate w 0)) c.move-down.ensures.items
+          c.zero.ensures.items ∙ ap (λ r. put r (w * (n - 1)) (replicate w 0)) c.move_down.ensures.items
           ∙ shifted-taken_out bs w n c.args.k (n - 1) one from long;
-      len = c.zero.ensures.len ∙ c.move-down.ensures.len;
+      len = c.zero.ensures.len ∙ c.move_down.ensures.len;
     }

@@ -10,10 +10,10 @@ returns c =
     let area = c.args.area.now in
     let bs = area.items in
     let at = 4 * c.args.n in
-    let marks : c.number-at.result ≡ number_at (drop at bs) 0 =
-    c.number-at.ensures ∙ sym (number_at-drop-first at bs) in
+    let marks : c.number_at.result ≡ number_at (drop at bs) 0 =
+    c.number_at.ensures ∙ sym (number_at-drop-first at bs) in
     let byte : c.index.result.now ≡ get_or (drop at bs) 2 0 =
     get_or_read_under bs (at + 2) area.len _ 0 c.index.ensures (omega arith) area.ok.0
     ∙ sym (get_or-drop at bs 2 0) in
-    let kind : c.read-kind.result ≡ read_kind (get_or (drop at bs) 2 0) = c.read-kind.ensures ∙ ap read_kind byte in
+    let kind : c.read_kind.result ≡ read_kind (get_or (drop at bs) 2 0) = c.read_kind.ensures ∙ ap read_kind byte in
     cc

@@ -2,7 +2,7 @@ use Rattle.std.proofs.Common.{sym, ◌∙◌, arith}
 use Rattle.program.specs.Meaning.{no_move}
 use Rattle.std.proofs.lemmas.List.{get_or_past}
 use Rattle.views.specs.NewStages.{viewed}
-use Rattle.views.proofs.Views.{move-below, stages-below, new-move}
+use Rattle.views.proofs.Views.{move_below, stages_below, new_move}
 use Rattle.views.proofs.minute.MinuteViewProgram.move_at.Goals as goal
 
 pub returns-then-k-lengths : goal.returns-then-k-lengths
@@ -18,18 +18,18 @@ find-old-requires g c =
     let h = g.met.P.Program.limits x.program.now in
     record {
       few = omega arith;
-      real = move-below t (g.P.Program.meaning x.program.now) h c.args.k
-          c.move-count.result (omega arith) c.move-count.ensures;
+      real = move_below t (g.P.Program.meaning x.program.now) h c.args.k
+          c.move_count.result (omega arith) c.move_count.ensures;
     }
 
-pub overflow-add-first : goal.overflow-add-first
-overflow-add-first g c =
+pub overflow_add-first : goal.overflow_add-first
+overflow_add-first g c =
     let x = c.args.self.now in
     let t = x.new_stages in
     let h = g.met.P.Program.limits x.program.now in
     let u =
-    stages-below t (g.P.Program.meaning x.program.now) h c.args.k
-    c.find-old.result c.stage-count.result (omega arith) (omega arith) c.stage-count.ensures in
+    stages_below t (g.P.Program.meaning x.program.now) h c.args.k
+    c.find-old.result c.stage_count.result (omega arith) (omega arith) c.stage_count.ensures in
     omega arith
 
 pub piece-requires : goal.piece-requires
@@ -39,8 +39,8 @@ piece-requires g c =
     let h = g.met.P.Program.limits x.program.now in
     record {
       place = omega arith;
-      few = stages-below t (g.P.Program.meaning x.program.now) h c.args.k
-          c.find-old.result c.stage-count.result (omega arith) (omega arith) c.stage-count.ensures;
+      few = stages_below t (g.P.Program.meaning x.program.now) h c.args.k
+          c.find-old.result c.stage_count.result (omega arith) (omega arith) c.stage_count.ensures;
     }
 
 pub returns : goal.returns
@@ -49,6 +49,6 @@ returns g c =
     let t = x.new_stages in
     let h = g.met.P.Program.limits x.program.now in
     c.piece.ensures
-    ∙ new-move t (g.P.Program.meaning x.program.now) h c.args.k
-    c.find-old.result c.stage-count.result c.timed_move_at.result (omega arith) (omega arith)
-    c.stage-count.ensures c.timed_move_at.ensures (omega arith) (omega arith)
+    ∙ new_move t (g.P.Program.meaning x.program.now) h c.args.k
+    c.find-old.result c.stage_count.result c.move_at.result (omega arith) (omega arith)
+    c.stage_count.ensures c.move_at.ensures (omega arith) (omega arith)

@@ -2,13 +2,14 @@ use Rattle.std.proofs.Common.{ℕ, suc, ◌+◌, ◌*◌, sym, ap, ◌∙◌, ar
 use Rattle.program.specs.Meaning.{no_move}
 use Rattle.program.specs.Edits.{leads}
 use Rattle.std.proofs.lemmas.List.{get_or_past}
-use Rattle.views.specs.Schedules.{within_aWeek, segment_moves}
-use Rattle.views.proofs.Segments.{at, length_moves, ramp_move, hold_move, goes_on, goes_back}
+use Rattle.views.specs.Schedules.{within_a_week, segment_moves}
+use Rattle.views.specs.ScheduleLimits.{length_moves}
+use Rattle.views.proofs.Segments.{at, ramp_move, hold_move, goes_on, goes_back}
 use Rattle.views.proofs.schedule.ScheduleProgram.move_at.Goals as goal
 
 pub returns-then-k-i : goal.returns-then-k-i
 returns-then-k-i c =
-    ap (λ (d : ℕ). leads (2 * c.loop-i.i) d (2 * c.loop-i.i + 1)) c.within-a-week.ensures
+    ap (λ (d : ℕ). leads (2 * c.loop-i.i) d (2 * c.loop-i.i + 1)) c.within_a_week.ensures
     ∙ ramp_move c.args.self.now.segments.now 0 c.loop-i.i (2 * c.loop-i.i) c.args.k (omega arith)
     (omega arith) (omega arith)
 
@@ -16,16 +17,16 @@ pub returns-then-i-self : goal.returns-then-i-self
 returns-then-i-self c =
     let gs = c.args.self.now.segments.now in
     let i = c.loop-i.i in
-    ap (λ (d : ℕ). leads (2 * i + 1) d (2 * i + 2)) c.within-a-week-then-k-i-2.ensures
-    ∙ ap (λ (t : ℕ). leads (2 * i + 1) (within_aWeek (at gs i).hold) t) (sym (goes_on gs (suc i) (2 * i + 2) (omega arith)))
+    ap (λ (d : ℕ). leads (2 * i + 1) d (2 * i + 2)) c.within_a_week-then-k-i-2.ensures
+    ∙ ap (λ (t : ℕ). leads (2 * i + 1) (within_a_week (at gs i).hold) t) (sym (goes_on gs (suc i) (2 * i + 2) (omega arith)))
     ∙ hold_move gs 0 i (2 * i) c.args.k (omega arith) (omega arith) (omega arith)
 
 pub returns-else-i-self : goal.returns-else-i-self
 returns-else-i-self c =
     let gs = c.args.self.now.segments.now in
     let i = c.loop-i.i in
-    ap (λ (d : ℕ). leads (2 * i + 1) d 0) c.within-a-week-then-k-i-2.ensures
-    ∙ ap (λ (t : ℕ). leads (2 * i + 1) (within_aWeek (at gs i).hold) t)
+    ap (λ (d : ℕ). leads (2 * i + 1) d 0) c.within_a_week-then-k-i-2.ensures
+    ∙ ap (λ (t : ℕ). leads (2 * i + 1) (within_a_week (at gs i).hold) t)
     (sym (goes_back gs (suc i) (2 * i + 2) (omega arith)))
     ∙ hold_move gs 0 i (2 * i) c.args.k (omega arith) (omega arith) (omega arith)
 

@@ -2,7 +2,8 @@ use Rattle.std.proofs.Common.{sym, arith}
 use Rattle.program.specs.Meaning.{no_stage}
 use Rattle.std.proofs.lemmas.List.{get_or_past}
 use Rattle.views.specs.Schedules.{segment_stages}
-use Rattle.views.proofs.Segments.{length_stages, ramp_stage, hold_stage}
+use Rattle.views.specs.ScheduleLimits.{length_stages}
+use Rattle.views.proofs.Segments.{ramp_stage, hold_stage}
 use Rattle.views.proofs.schedule.ScheduleProgram.stage.Goals as goal
 
 pub returns-then-s-i : goal.returns-then-s-i

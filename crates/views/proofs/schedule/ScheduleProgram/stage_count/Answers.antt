@@ -1,5 +1,5 @@
 use Rattle.std.proofs.Common.{sym}
-use Rattle.views.proofs.Segments.{length_stages}
+use Rattle.views.specs.ScheduleLimits.{length_stages}
 use Rattle.views.proofs.schedule.ScheduleProgram.stage_count.Goals as goal
 
 pub returns : goal.returns

@@ -3,15 +3,16 @@ use Rattle.std.proofs.lemmas.List.{get_or_past}
 use Rattle.program.specs.Meaning.{no_stage}
 use Rattle.stores.specs.Areas.{in_use}
 use Rattle.stores.specs.Records.{stage_layout}
-use Rattle.stores.proofs.Areas.{length-inUse, getD-inUse}
+use Rattle.stores.specs.InUse.{length_in_use}
+use Rattle.stores.proofs.Areas.{get_or-in_use}
 use Rattle.stores.proofs.tray.edits.TrayProgram.stage.Goals as goal
 
 pub returns-then-s-self : goal.returns-then-s-self
-returns-then-s-self c = c.read-stage.ensures ∙ sym (getD-inUse stage_layout _ _ _ no_stage c.if-s-self.true)
+returns-then-s-self c = c.read_stage.ensures ∙ sym (get_or-in_use stage_layout _ _ _ no_stage c.if-s-self.true)
 
 pub returns-else-s-self : goal.returns-else-s-self
 returns-else-s-self c =
     let tray = c.args.self.now in
     let bs = tray.areas.now.stages.items in
     let n = tray.stage_count in
-    sym (get_or_past (in_use stage_layout n bs) _ no_stage (omega (arith, length-inUse stage_layout n bs)))
+    sym (get_or_past (in_use stage_layout n bs) _ no_stage (omega (arith, length_in_use stage_layout n bs)))

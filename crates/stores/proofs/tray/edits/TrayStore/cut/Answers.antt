@@ -5,17 +5,18 @@ use Rattle.program.proofs.Doing.{cuts}
 use Rattle.program.proofs.Kept.{does_tidy}
 use Rattle.stores.specs.Records.{stage_layout, move_layout}
 use Rattle.stores.specs.Trays.{areas_room}
-use Rattle.stores.proofs.Areas.{length-inUse, below-inUse}
-use Rattle.stores.proofs.Trays.{tray-cut, cut_long, same_room}
+use Rattle.stores.specs.InUse.{length_in_use}
+use Rattle.stores.proofs.Areas.{below-in_use}
+use Rattle.stores.proofs.Trays.{tray_cut, cut_long, same_room}
 use Rattle.stores.proofs.Refusals.{cut_stages_full, cut_moves_full}
 use Rattle.stores.proofs.Kept.{ends_kept_by_cut}
 use Rattle.stores.proofs.tray.edits.TrayStore.cut.Goals as goal
 
-pub returns-in-err-pieces : goal.returns-in-err-pieces
-returns-in-err-pieces c =
+pub returns-in_err-pieces : goal.returns-in_err-pieces
+returns-in_err-pieces c =
     let tray = c.args.self.now in
-    let p = err_from_is_err_and c.from-residual.result c.from-residual.ensures.1 in
-    rw (p.1, p.2, c.in-err-pieces.ensures (areas_room tray.areas.now))
+    let p = err_from_is_err_and c.from_residual.result c.from_residual.ensures.1 in
+    rw (p.1, p.2, c.in_err-pieces.ensures (areas_room tray.areas.now))
     (record {
       does = record { answers = refl; leaves = refl };
       tidy = λ t. t;
@@ -23,12 +24,12 @@ returns-in-err-pieces c =
       stays = record { loan = refl; long = record { stages = refl; moves = refl } };
     })
 
-pub returns-then-stage-stage-capacity : goal.returns-then-stage-stage-capacity
-returns-then-stage-stage-capacity c =
+pub returns-then-stage-stage_capacity : goal.returns-then-stage-stage_capacity
+returns-then-stage-stage_capacity c =
     let tray = c.args.self.now in
-    let s = length-inUse stage_layout tray.stage_count tray.areas.now.stages.items in
-    let allowed = c.in-ok-pieces.ensures in
-    let room = c.stage-capacity.ensures in
+    let s = length_in_use stage_layout tray.stage_count tray.areas.now.stages.items in
+    let allowed = c.in_ok-pieces.ensures in
+    let room = c.stage_capacity.ensures in
     record {
       does = cut_stages_full (areas_room tray.areas.now) _ _ _ _ allowed (omega (arith, s, room));
       tidy = λ t. t;
@@ -36,14 +37,14 @@ returns-then-stage-stage-capacity c =
       stays = record { loan = refl; long = record { stages = refl; moves = refl } };
     }
 
-pub returns-then-n-move-capacity : goal.returns-then-n-move-capacity
-returns-then-n-move-capacity c =
+pub returns-then-n-move_capacity : goal.returns-then-n-move_capacity
+returns-then-n-move_capacity c =
     let tray = c.args.self.now in
-    let s = length-inUse stage_layout tray.stage_count tray.areas.now.stages.items in
-    let n = length-inUse move_layout tray.move_count tray.areas.now.moves.items in
-    let allowed = c.in-ok-pieces.ensures in
-    let rs = c.stage-capacity.ensures in
-    let rm = c.move-capacity.ensures in
+    let s = length_in_use stage_layout tray.stage_count tray.areas.now.stages.items in
+    let n = length_in_use move_layout tray.move_count tray.areas.now.moves.items in
+    let allowed = c.in_ok-pieces.ensures in
+    let rs = c.stage_capacity.ensures in
+    let rm = c.move_capacity.ensures in
     record {
       does =
           cut_moves_full (areas_room tray.areas.now) _ _ _ _ allowed (omega (arith, s, rs)) (omega (arith, n, rm));
@@ -52,42 +53,48 @@ returns-then-n-move-capacity c =
       stays = record { loan = refl; long = record { stages = refl; moves = refl } };
     }
 
-pub put-move-requires : goal.put-move-requires
-put-move-requires c =
+pub put_move-requires : goal.put_move-requires
+put_move-requires c =
     let tray = c.args.self.now in
-    let real = c.in-ok-pieces.ensures.real in
-    let below = below-inUse move_layout tray.move_count _ tray.areas.now.moves.items real in
+    let real = c.in_ok-pieces.ensures.real in
+    let below = below-in_use move_layout tray.move_count _ tray.areas.now.moves.items real in
     omega arith
 
-pub invariant-of-self : goal.invariant-of-self
-invariant-of-self c =
+pub invariant_of-self : goal.invariant_of-self
+invariant_of-self c =
     let tray = c.args.self.now in
-    let allowed = c.in-ok-pieces.ensures in
-    let below = below-inUse move_layout tray.move_count _ tray.areas.now.moves.items allowed.real in
-    let first = c.put-move.ensures in
-    let second = c.put-move-2.ensures in
-    let stage = c.put-stage.ensures in
-    let cut = tray-cut _ _ _ tray.stage_area tray.move_area _ _ _ _ _ _ allowed below first second stage in
+    let allowed = c.in_ok-pieces.ensures in
+    let below = below-in_use move_layout tray.move_count _ tray.areas.now.moves.items allowed.real in
+    let first = c.put_move.ensures in
+    let second = c.put_move-2.ensures in
+    let stage = c.put_stage.ensures in
+    let cut = tray_cut _ _ _ tray.stage_area tray.move_area _ _ _ _ _ _ allowed below first second stage in
     let long = cut_long _ _ _ _ _ _ _ _ _ _ first second stage in
     let ends = ends_kept_by_cut _ _ _ _ _ allowed cut.is tray.ends in
-    let rs = c.stage-capacity.ensures in
-    let rm = c.move-capacity.ensures in
-    (cut.stage_area, (cut.move_area, (omega (arith, rs), (omega (arith, rm), (ends, tt)))))
+    let rs = c.stage_capacity.ensures in
+    let rm = c.move_capacity.ensures in
+    record {
+      stage_area = cut.stage_area;
+      move_area = cut.move_area;
+      stage_room = omega (arith, rs);
+      move_room = omega (arith, rm);
+      ends = ends;
+    }
 
 pub returns : goal.returns
 returns c =
     let tray = c.args.self.now in
-    let allowed = c.in-ok-pieces.ensures in
-    let below = below-inUse move_layout tray.move_count _ tray.areas.now.moves.items allowed.real in
-    let first = c.put-move.ensures in
-    let second = c.put-move-2.ensures in
-    let stage = c.put-stage.ensures in
-    let cut = tray-cut _ _ _ tray.stage_area tray.move_area _ _ _ _ _ _ allowed below first second stage in
+    let allowed = c.in_ok-pieces.ensures in
+    let below = below-in_use move_layout tray.move_count _ tray.areas.now.moves.items allowed.real in
+    let first = c.put_move.ensures in
+    let second = c.put_move-2.ensures in
+    let stage = c.put_stage.ensures in
+    let cut = tray_cut _ _ _ tray.stage_area tray.move_area _ _ _ _ _ _ allowed below first second stage in
     let long = cut_long _ _ _ _ _ _ _ _ _ _ first second stage in
-    let s = length-inUse stage_layout tray.stage_count tray.areas.now.stages.items in
-    let n = length-inUse move_layout tray.move_count tray.areas.now.moves.items in
-    let rs = c.stage-capacity.ensures in
-    let rm = c.move-capacity.ensures in
+    let s = length_in_use stage_layout tray.stage_count tray.areas.now.stages.items in
+    let n = length_in_use move_layout tray.move_count tray.areas.now.moves.items in
+    let rs = c.stage_capacity.ensures in
+    let rm = c.move_capacity.ensures in
     let caps = areas_room tray.areas.now in
     let does =
     cuts caps _ _ _ _ _ allowed.real allowed.inside s (omega (arith, rs)) (omega (arith, n, rm)) cut.is in

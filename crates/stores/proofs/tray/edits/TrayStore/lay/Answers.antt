@@ -4,17 +4,17 @@ use Rattle.program.specs.declared.edit.Edit.TheVariants as edit
 use Rattle.program.proofs.Kept.{does_tidy}
 use Rattle.stores.specs.Records.{move_layout}
 use Rattle.stores.specs.Trays.{areas_room}
-use Rattle.stores.proofs.Areas.{length-inUse}
-use Rattle.stores.proofs.Trays.{tray-laid, move_put_long, same_room}
+use Rattle.stores.specs.InUse.{length_in_use}
+use Rattle.stores.proofs.Trays.{tray_laid, move_put_long, same_room}
 use Rattle.stores.proofs.Refusals.{lay_full, allowed_lays}
 use Rattle.stores.proofs.Kept.{ends_kept_by_lay}
 use Rattle.stores.proofs.tray.edits.TrayStore.lay.Goals as goal
 
-pub returns-in-err-record : goal.returns-in-err-record
-returns-in-err-record c =
+pub returns-in_err-record : goal.returns-in_err-record
+returns-in_err-record c =
     let tray = c.args.self.now in
-    let p = err_from_is_err_and c.from-residual.result c.from-residual.ensures.1 in
-    rw (p.1, p.2, c.in-err-record.ensures (areas_room tray.areas.now))
+    let p = err_from_is_err_and c.from_residual.result c.from_residual.ensures.1 in
+    rw (p.1, p.2, c.in_err-record.ensures (areas_room tray.areas.now))
     (record {
       does = record { answers = refl; leaves = refl };
       tidy = λ t. t;
@@ -22,12 +22,12 @@ returns-in-err-record c =
       stays = record { loan = refl; long = record { stages = refl; moves = refl } };
     })
 
-pub returns-then-n-move-capacity : goal.returns-then-n-move-capacity
-returns-then-n-move-capacity c =
+pub returns-then-n-move_capacity : goal.returns-then-n-move_capacity
+returns-then-n-move_capacity c =
     let tray = c.args.self.now in
-    let n = length-inUse move_layout tray.move_count tray.areas.now.moves.items in
-    let allowed = c.in-ok-record.ensures in
-    let room = c.move-capacity.ensures in
+    let n = length_in_use move_layout tray.move_count tray.areas.now.moves.items in
+    let allowed = c.in_ok-record.ensures in
+    let room = c.move_capacity.ensures in
     record {
       does = lay_full (areas_room tray.areas.now) _ _ _ _ _ allowed (omega (arith, n, room));
       tidy = λ t. t;
@@ -35,26 +35,32 @@ returns-then-n-move-capacity c =
       stays = record { loan = refl; long = record { stages = refl; moves = refl } };
     }
 
-pub invariant-of-self : goal.invariant-of-self
-invariant-of-self c =
+pub invariant_of-self : goal.invariant_of-self
+invariant_of-self c =
     let tray = c.args.self.now in
-    let allowed = c.in-ok-record.ensures in
-    let put = c.put-move.ensures in
-    let laid = tray-laid _ _ _ tray.stage_area tray.move_area _ _ _ _ _ allowed.is put in
+    let allowed = c.in_ok-record.ensures in
+    let put = c.put_move.ensures in
+    let laid = tray_laid _ _ _ tray.stage_area tray.move_area _ _ _ _ _ allowed.is put in
     let long = move_put_long _ _ _ _ put in
     let ends = ends_kept_by_lay _ _ _ _ _ _ allowed laid.is tray.ends in
-    let room = c.move-capacity.ensures in
-    (laid.stage_area, (laid.move_area, (omega arith, (omega (arith, room), (ends, tt)))))
+    let room = c.move_capacity.ensures in
+    record {
+      stage_area = laid.stage_area;
+      move_area = laid.move_area;
+      stage_room = omega arith;
+      move_room = omega (arith, room);
+      ends = ends;
+    }
 
 pub returns : goal.returns
 returns c =
     let tray = c.args.self.now in
-    let allowed = c.in-ok-record.ensures in
-    let put = c.put-move.ensures in
-    let laid = tray-laid _ _ _ tray.stage_area tray.move_area _ _ _ _ _ allowed.is put in
+    let allowed = c.in_ok-record.ensures in
+    let put = c.put_move.ensures in
+    let laid = tray_laid _ _ _ tray.stage_area tray.move_area _ _ _ _ _ allowed.is put in
     let long = move_put_long _ _ _ _ put in
-    let n = length-inUse move_layout tray.move_count tray.areas.now.moves.items in
-    let room = c.move-capacity.ensures in
+    let n = length_in_use move_layout tray.move_count tray.areas.now.moves.items in
+    let room = c.move_capacity.ensures in
     let caps = areas_room tray.areas.now in
     let does = allowed_lays caps _ _ _ _ _ _ _ allowed n (omega (arith, room)) laid.is in
     let made = edit.Lay c.args.leaves c.args.minutes c.args.enters in

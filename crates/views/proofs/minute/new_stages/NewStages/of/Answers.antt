@@ -6,8 +6,8 @@ use Rattle.views.proofs.minute.new_stages.NewStages.of.Goals as goal
 pub loop-k-preserved : goal.loop-k-preserved
 loop-k-preserved g c =
     filled_more (g.P.Program.meaning c.args.program.now) c.loop-k.before c.loop-k.k
-    c.saturating-sub-inside.result c.loop-k.invariant (omega arith)
-    (c.saturating-sub-inside.ensures ∙ ap inside c.timed_move_at.ensures) (omega arith)
+    c.saturating_sub-inside.result c.loop-k.invariant (omega arith)
+    (c.saturating_sub-inside.ensures ∙ ap inside c.move_at.ensures) (omega arith)
 
 pub returns : goal.returns
 returns g c = λ k l. c.loop-k.invariant.by_minutes k (omega arith)

@@ -1,7 +1,0 @@
-use Rattle.std.proofs.Common.{◌≡◌}
-use Rattle.tally.specs.Walks.{among}
-use Rattle.check.specs.Found.{ahead, steps}
-use Rattle.check.proofs.tests.follow.Given as goal
-
-abbrev pub invariant-loop-done : goal.invariant-loop-done
-invariant-loop-done l = l.at ≡ steps (ahead l.moves (among l.set)) l.-done l.s

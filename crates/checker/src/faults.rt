@@ -1,0 +1,35 @@
+// Why a check is refused.
+ghost use Rattle.std.specs.Prelude.{◌≡◌};
+ghost use Rattle.checker.specs.Faults.{fault_number, fault_part, fault_stage};
+
+use reader::ReadFault;
+
+#[derive(Clone, Copy, PartialEq, Debug)]
+pub enum CheckFault {
+    // the text is no rule that can be checked
+    Text(ReadFault),
+    NoStage,
+    // a stage without a move out
+    DeadEnd(usize),
+    // a stage on a cycle of moves that take no time
+    StillCycle(usize),
+    // the sheet has fewer words than there are stages, or a table fewer than four entries a stage
+    ShortMemory,
+}
+
+impl CheckFault {
+    // The number of the refusal, the part that it lies in, and the stage that it names, or 0.
+    pub fn plain(self) -> (u8, u8, usize)
+        ensures number { result.0 ≡ fault_number self }
+        ensures part { result.1 ≡ fault_part self }
+        ensures stage { result.2 ≡ fault_stage self }
+    {
+        match self {
+            CheckFault::Text(fault) => (fault.number(), 0, 0),
+            CheckFault::NoStage => (12, 1, 0),
+            CheckFault::DeadEnd(s) => (13, 1, s),
+            CheckFault::StillCycle(s) => (14, 1, s),
+            CheckFault::ShortMemory => (15, 2, 0),
+        }
+    }
+}

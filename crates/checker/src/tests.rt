@@ -1,0 +1,94 @@
+// What a program has to have, so that rules can be checked on it: each stage a move out, and no cycle of moves that
+// take no time.
+ghost use Rattle.std.specs.Prelude.{◌≡◌, ◌<◌, ◌≤◌, length};
+ghost use Rattle.program.specs.Meaning.{most_stages};
+ghost use Rattle.tally.specs.Walks.{among};
+ghost use Rattle.tally.specs.Rounds.{Within};
+ghost use Rattle.sheet.specs.Rows.{prog};
+ghost use Rattle.checker.specs.Found.{DeadFound, CycleFound, Found, meets, ahead, steps};
+
+use program::{MOST_STAGES, Move, Stage};
+use sheet::parts::{Sort, keep_endless};
+
+// The lowest stage that no move leaves.
+pub fn dead_end(stages: &[Stage], moves: &[Move]) -> Option<usize>
+    ensures { DeadFound (prog stages.now moves.now) result }
+{
+    'stages: for s in 0..stages.len() {
+        for m in moves {
+            if m.leaves as usize == s {
+                continue 'stages;
+            }
+        }
+        return Some(s);
+    }
+    None
+}
+
+// The first stage in a set.
+fn first_in(n: usize, set: &[u32]) -> Option<usize>
+    requires { n ≤ length set.now }
+    ensures { Found n (among set.now) result }
+{
+    for s in 0..n {
+        if set[s] > 0 {
+            return Some(s);
+        }
+    }
+    None
+}
+
+fn leads_on(m: Move, set: &[u32], s: usize) -> bool
+    requires { m.enters < length set.now }
+    ensures { result ≡ meets (among set.now) m s }
+{
+    if m.leaves as usize == s {
+        if m.minutes == 0 {
+            set[m.enters as usize] > 0
+        } else {
+            false
+        }
+    } else {
+        false
+    }
+}
+
+// Where the first 0-minute move from a stage into a set leads.
+fn follow_once(n: usize, moves: &[Move], set: &[u32], s: usize) -> usize
+    requires { (Within n moves.now) × (n ≤ length set.now) }
+    ensures { result ≡ ahead moves.now (among set.now) s }
+{
+    for m in moves {
+        if leads_on(*m, set, s) {
+            return m.enters as usize;
+        }
+    }
+    s
+}
+
+// After as many steps as there are stages one goes round.
+fn follow(n: usize, moves: &[Move], set: &[u32], s: usize) -> usize
+    requires { (Within n moves.now) × (n ≤ length set.now) }
+    ensures { result ≡ steps (ahead moves.now (among set.now)) n s }
+{
+    let mut at = s;
+    for _done in 0..n {
+        at = follow_once(n, moves, set, at);
+    }
+    at
+}
+
+// A stage on a cycle of moves that take no time.
+pub(crate) fn still_stage(stages: &[Stage], moves: &[Move]) -> Option<usize>
+    requires few { length stages.now ≤ most_stages }
+    requires within { Within (length stages.now) moves.now }
+    ensures { CycleFound (prog stages.now moves.now) result }
+{
+    let mut set = [1u32; MOST_STAGES];
+    let mut has = [0u32; MOST_STAGES];
+    keep_endless(Sort::Still, stages, moves, &mut set, &mut has);
+    match first_in(stages.len(), &set) {
+        Some(s) => Some(follow(stages.len(), moves, &set, s)),
+        None => None,
+    }
+}
