@@ -5,6 +5,7 @@
 
 ghost use Rattle.std.specs.Prelude.{◌≤◌, length, IfOk};
 
+use anyhow::anyhow;
 use layout::faults::PageFault;
 use layout::loading::MOST_BYTES;
 use page::pages::Summary;
@@ -76,8 +77,8 @@ fn say(rt: &impl Eprint, summary: Summary) -> io::Result<()> {
 // What failed, with the reason that the system gives.
 fn failed(rt: &HostRuntime, what: &str, reason: io::Error) -> anyhow::Error {
     match format!(in rt.alloc(); "{what}: {reason}") {
-        Ok(words) => words.into(),
-        Err(_) => what.into(),
+        Ok(words) => anyhow!("{words}"),
+        Err(_) => anyhow!("{what}"),
     }
 }
 

@@ -1,7 +1,8 @@
 -- A page is loaded one line after another.
 use Rattle.std.proofs.Common.{◌≡◌, ℕ, ◌+◌, ◌<◌, ◌≤◌, Bool, true, false, cond, not, ltb, leb, List, [], ◌∷◌, ◌++◌}
 use Rattle.std.proofs.Common.{length, Ok, Err, Result, sym, refl, ap, ◌∙◌, subst, arith}
-use borrow.Author.Tests.{both_ways}
+use denote.Enum.Bare.{sameb, differs_true, differs_false}
+use Rattle.layout.specs.contracts.loading.Part.{the_type}
 use Rattle.std.proofs.lemmas.List.{append_assoc, append-nil, length-append, length_push, nil_from_length}
 use Rattle.program.specs.declared.EditFault.{EditFault}
 use Rattle.program.specs.declared.EditFault.TheVariants.{NoStage, SilentStage, TooLong, StagesFull, MovesFull}
@@ -242,18 +243,8 @@ pub shorter : {bytes : List ℕ} (l : Line) (rest : List ℕ) → bytes ≡ writ
 shorter l rest e = omega (arith, ap length e, length-append (write l) (10 ∷ rest))
 
 -- What a test for another part says.
-pub is_part : (x part : Part) (r : Bool) → (t : Bool) × cond t (x ≡ part) (x ≡ part → ⊥) × (r ≡ not t) → r ≡ false
-    → x ≡ part
-is_part x part r h e = go h.0 h.1 h.2
-  where
-    go : (t : Bool) → cond t (x ≡ part) (x ≡ part → ⊥) → r ≡ not t → x ≡ part
-    go true a b = a
-    go false a b = absurd (both_ways r e b)
+pub is_part : (x part : Part) (r : Bool) → r ≡ not (sameb the_type x part) → r ≡ false → x ≡ part
+is_part x part r h e = differs_false the_type tt x part (sym h ∙ e)
 
-pub not_part : (x part : Part) (r : Bool) → (t : Bool) × cond t (x ≡ part) (x ≡ part → ⊥) × (r ≡ not t) → r ≡ true
-    → x ≡ part → ⊥
-not_part x part r h e = go h.0 h.1 h.2
-  where
-    go : (t : Bool) → cond t (x ≡ part) (x ≡ part → ⊥) → r ≡ not t → x ≡ part → ⊥
-    go true a b = absurd (both_ways r b e)
-    go false a b = a
+pub not_part : (x part : Part) (r : Bool) → r ≡ not (sameb the_type x part) → r ≡ true → x ≡ part → ⊥
+not_part x part r h e = differs_true the_type x part (sym h ∙ e)

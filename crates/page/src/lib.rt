@@ -5,9 +5,9 @@
 #![tactic(auto)]
 
 mod answers;
+pub mod each_rule;
 pub mod faults;
 pub mod pages;
-pub mod rules;
 
 ghost use Rattle.std.specs.Prelude.{IfOk};
 ghost use Rattle.program.specs.Meaning.{empty};

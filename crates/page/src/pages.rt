@@ -3,8 +3,8 @@ ghost use Rattle.std.specs.Prelude.{IfOk};
 ghost use Rattle.page.specs.Whole.{AddsPage};
 
 use crate::answers::write_refused;
+use crate::each_rule::{Counts, answer_rules};
 use crate::faults::ConsoleFault;
-use crate::rules::{Counts, answer_rules};
 use layout::faults::PageFault;
 use layout::loading::load;
 use program::Store;
@@ -31,7 +31,7 @@ pub(crate) fn answer_over<S: Store>(
     page: &[u8],
     out: &mut Vec<u8>,
 ) -> Result<Summary, AllocError>
-    ensures { IfOk result (λ summary. AddsPage (room store.old) (S.Program.meaning store.old)
+    ensures { IfOk result (λ summary. AddsPage (S.room store.old) (S.Program.meaning store.old)
         page.now out.old.items out.new.items summary) }
 {
     match load(store, page) {

@@ -5,7 +5,7 @@ use Rattle.page.proofs.answers.write_field.Goals as goal
 pub returns : goal.returns
 returns c =
     three_pieces (vec_items c.args.out.now) c.args.name.now (decimal c.args.number) (10 ∷ [])
-    (vec_items c.push.new.self) (vec_items c.extend-from-slice.new.self)
-    (vec_items c.write-number.new.out)
-    c.in-ok-extend-from-slice.ensures.items c.in-ok-write-number.ensures
-    c.in-ok-push.ensures.items
+    (vec_items c.push.new.self) (vec_items c.extend_from_slice.new.self)
+    (vec_items c.write_number.new.out)
+    c.in_ok-extend_from_slice.ensures.items c.in_ok-write_number.ensures
+    c.in_ok-push.ensures.items

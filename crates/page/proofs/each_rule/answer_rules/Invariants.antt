@@ -1,6 +1,6 @@
 use Rattle.std.proofs.Common.{length, vec_items}
 use Rattle.page.proofs.Series.{Sofar}
-use Rattle.page.proofs.rules.answer_rules.Given as goal
+use Rattle.page.proofs.each_rule.answer_rules.Given as goal
 
 abbrev pub invariant-loop-text : goal.invariant-loop-text
 invariant-loop-text g l =

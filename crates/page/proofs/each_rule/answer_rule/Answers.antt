@@ -1,9 +1,9 @@
 use Rattle.std.proofs.Common.{◌≡◌, ◌-◌, ◌*◌, ◌≤◌, length, take, vec_items, ap, arith}
 use Rattle.page.proofs.Told.{lined, adds}
-use Rattle.page.proofs.rules.answer_rule.Goals as goal
+use Rattle.page.proofs.each_rule.answer_rule.Goals as goal
 
-pub write-rule-requires : goal.write-rule-requires
-write-rule-requires g c = lined _ _ _ _ c.check-answer.result c.check-answer.ensures
+pub write_rule-requires : goal.write_rule-requires
+write_rule-requires g c = lined _ _ _ _ c.check-answer.result c.check-answer.ensures
 
 pub returns : goal.returns
 returns g c =
@@ -14,9 +14,9 @@ returns g c =
     let reached : 4 * length p.stages ≤ length desk.reached = omega arith in
     let shortest : 4 * length p.stages ≤ length desk.shortest = omega arith in
     let longest : 4 * length p.stages ≤ length desk.longest = omega arith in
-    let all : c.stage-count.result - 0 ≡ length p.stages = omega (arith, c.stage-count.ensures) in
+    let all : c.stage_count.result - 0 ≡ length p.stages = omega (arith, c.stage_count.ensures) in
     adds p c.args.number c.args.text.now (vec_items c.args.out.now)
-    (vec_items c.write-rule.new.out) _ _ _
-    c.check-answer.result c.is-ok.result c.check-answer.ensures (sheet, reached, shortest, longest)
+    (vec_items c.write_rule.new.out) _ _ _
+    c.check-answer.result c.is_ok.result c.check-answer.ensures (sheet, reached, shortest, longest)
     c.check-answer.auto.sheet (ap (λ n. take n c.check-answer.new.sheet) all)
-    c.in-ok-write-rule.ensures c.is-ok.ensures.value
+    c.in_ok-write_rule.ensures c.is_ok.ensures.value
