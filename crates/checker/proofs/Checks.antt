@@ -1,5 +1,5 @@
 -- A check of the lines of a rule is one of its text, and no two cases of a check of a text fit at once.
-use Rattle.std.proofs.Common.{◌≡◌, ℕ, ◌≤◌, ◌⊎◌, List, [], length, Ok, Err, Result, sym, refl, ap, ◌∙◌, subst, inl, inr}
+use Rattle.std.proofs.Common.{◌≡◌, ℕ, ◌≤◌, ◌⊎◌, List, length, Ok, Err, Result, sym, refl, ap, ◌∙◌, subst, inl, inr}
 use Rattle.std.proofs.Common.{arith}
 use Rattle.program.specs.Meaning.{Prog}
 use Rattle.rules.specs.declared.line.Line.{Line}

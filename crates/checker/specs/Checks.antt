@@ -9,7 +9,7 @@ use Rattle.reader.specs.Answer.{longest}
 use Rattle.reader.specs.Answer as reader
 use Rattle.checker.specs.declared.faults.CheckFault.{CheckFault}
 use Rattle.checker.specs.declared.faults.CheckFault.TheVariants.{Text, NoStage, DeadEnd, StillCycle, ShortMemory}
-use Rattle.checker.specs.Outcomes.{Memory, Refused, Outcome}
+use Rattle.checker.specs.Outcomes.{Memory, Outcome}
 
 -- The text is read as a rule, which is within the limits.
 pub record Reads (text : List ℕ) (rule : Rule) : Type 0 where

@@ -1,5 +1,5 @@
 -- The memory that a session hands to its checks is enough for any program.
-use Rattle.std.proofs.Common.{ℕ, ◌-◌, length, replicate, arith}
+use Rattle.std.proofs.Common.{ℕ, length, replicate, arith}
 use lib.ListN.{length-replicate}
 use Rattle.program.specs.Meaning.{Prog, Limits}
 use Rattle.tally.specs.declared.Reach.TheVariants as reach
