@@ -81,7 +81,8 @@ fn piece(whole: Move, inside: usize, first: usize, place: usize) -> Move
 impl<'a, P: Program> Program for MinuteView<'a, P> {
     ghost meaning = { λ x. viewed x.new_stages.before (P.Program.meaning x.program.now) };
 
-    ghost limits = { λ x. view_limits x.new_stages.before x.new_stages.first x.new_stages.rising (P.Program.meaning x.program.now) (P.Program.limits x.program.now) };
+    ghost limits = { λ x. view_limits x.new_stages.before x.new_stages.first x.new_stages.rising
+        (P.Program.meaning x.program.now) (P.Program.limits x.program.now) };
 
     fn stage_count(&self) -> usize {
         self.lengths().stages
