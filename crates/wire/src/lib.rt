@@ -1,4 +1,4 @@
-// The check behind a C interface: a static library for the benchmark in bench/, which calls it from Rust.
+// The check on a program given as plain numbers, in one call. `wire_c` offers it to C.
 
 #![tactic(auto)]
 
@@ -101,8 +101,7 @@ fn run(
 
 // Checks the text so many times on the program, and leaves the sheet of the last one; the number of lines, or 0 where
 // an edit or the check was refused or memory ran out.
-#[unsafe(no_mangle)]
-pub extern "C" fn burn_check(
+pub fn burn_check(
     heap: Global,
     marks: &[u16],
     moves: &[u16],
