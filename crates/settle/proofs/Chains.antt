@@ -4,8 +4,8 @@ use Rattle.std.proofs.lemmas.List.{get_or-set_same, get_or-set_other}
 use Rattle.std.proofs.lemmas.Bool.{cases_eq, cases_lt}
 use Rattle.program.specs.declared.Move.{Move}
 use Rattle.tally.specs.Rounds.{Within}
-use Rattle.settle.specs.declared.links.End.{End}
-use Rattle.settle.specs.declared.links.End.TheVariants.{Leaves, Enters}
+use Rattle.program.specs.declared.End.{End}
+use Rattle.program.specs.declared.End.TheVariants.{Leaves, Enters}
 use Rattle.settle.specs.Chains.{end_at, Right, Chained}
 
 module _ (end : End) (n : ℕ) (moves : List Move) where

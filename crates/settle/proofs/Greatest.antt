@@ -15,11 +15,12 @@ use Rattle.tctl.specs.Checker.{tab_from, at, endless}
 use Rattle.tctl.specs.Greatest as greatest
 use Rattle.tctl.proofs.Basics.{table_e, table_i}
 use Rattle.tctl.proofs.Greatest.{endless_is_greatest_lem}
-use Rattle.settle.specs.declared.links.End.TheVariants.{Enters}
+use Rattle.program.specs.declared.End.TheVariants.{Enters}
 use Rattle.settle.specs.declared.endless.Sort.{Sort}
 use Rattle.settle.specs.declared.removal.Removal.{Removal}
 use Rattle.settle.specs.Chains.{end_at}
-use Rattle.settle.specs.Rows.{graph_of, row, sort_of}
+use Rattle.program.specs.Graphs.{graph_of}
+use Rattle.settle.specs.Rows.{row, sort_of}
 use Rattle.settle.specs.Removals.{Leads, Watching, Shrinks}
 
 -- Tests that pass together are one.

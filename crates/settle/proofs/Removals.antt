@@ -7,7 +7,7 @@ use Rattle.program.specs.declared.Move.{Move}
 use Rattle.program.specs.Meaning.{most_stages}
 use Rattle.tally.specs.Walks.{among}
 use Rattle.tctl.proofs.Basics.{card_lt}
-use Rattle.settle.specs.declared.links.End.TheVariants.{Leaves, Enters}
+use Rattle.program.specs.declared.End.TheVariants.{Leaves, Enters}
 use Rattle.settle.specs.declared.endless.Sort.{Sort}
 use Rattle.settle.specs.Chains.{end_at, Right}
 use Rattle.settle.specs.declared.removal.Removal.{Removal}

@@ -3,14 +3,11 @@ use Rattle.std.specs.Prelude.{◌≡◌, ℕ, ◌-◌, ◌<◌, ◌≤◌, List,
 use Rattle.program.specs.declared.Move.{Move}
 use Rattle.program.specs.Meaning.{no_move, most_stages, most_moves}
 use Rattle.tally.specs.Rounds.{Within}
-use Rattle.settle.specs.declared.links.End.{End}
-use Rattle.settle.specs.declared.links.End.TheVariants.{Leaves, Enters}
+use Rattle.program.specs.declared.End.{End}
+use Rattle.program.specs.declared.End.TheVariants.{Leaves, Enters}
+use Rattle.program.specs.Ends.{end_of}
 use Rattle.settle.specs.declared.links.Links.{Links}
 use Rattle.settle.specs.declared.links.Chains.{Chains}
-
-abbrev pub end_of : End → Move → ℕ
-end_of Leaves m = m.leaves
-end_of Enters m = m.enters
 
 -- The stage at the end of the move with a number.
 abbrev pub end_at : End → List Move → ℕ → ℕ

@@ -6,7 +6,7 @@ use Rattle.program.specs.Meaning.{no_move, most_stages}
 use Rattle.program.specs.Graphs.{timed_move}
 use Rattle.tally.specs.Walks.{among}
 use Rattle.tctl.proofs.Basics.{card}
-use Rattle.settle.specs.declared.links.End.TheVariants.{Leaves, Enters}
+use Rattle.program.specs.declared.End.TheVariants.{Leaves, Enters}
 use Rattle.settle.specs.declared.endless.Sort.{Sort}
 use Rattle.settle.specs.declared.removal.Removal.{Removal}
 use Rattle.settle.specs.Chains.{end_at}

@@ -1,17 +1,10 @@
 -- Rows of words as sets of stages, and the graph that two lists are.
 use Rattle.std.specs.Prelude.{◌≡◌, ℕ, ◌≤◌, Bool, List, slice_index}
-use Rattle.program.specs.declared.Stage.{Stage}
-use Rattle.program.specs.declared.Move.{Move}
-use Rattle.program.specs.Graphs.{graph}
 use Rattle.tally.specs.Walks.{among}
 use Rattle.tctl.specs.Graph as timed
 use Rattle.tctl.specs.Checker.{table, any_move, still}
 use Rattle.settle.specs.declared.endless.Sort.{Sort}
 use Rattle.settle.specs.declared.endless.Sort.TheVariants.{Any, Still}
-
--- The timed graph of the program that two lists are.
-abbrev pub graph_of : List Stage → List Move → timed.Graph
-graph_of stages moves = graph (record { stages = stages; moves = moves })
 
 -- The set that the first n words of a row say.
 abbrev pub row : ℕ → List ℕ → List Bool

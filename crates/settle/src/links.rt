@@ -3,16 +3,10 @@
 ghost use Rattle.std.specs.Prelude.{◌≡◌, ◌≤◌, length};
 ghost use Rattle.program.specs.Meaning.{most_stages, most_moves};
 ghost use Rattle.tally.specs.Rounds.{Within};
-ghost use Rattle.settle.specs.Chains.{end_of, Linked, ChainsOf};
+ghost use Rattle.settle.specs.Chains.{Linked, ChainsOf};
 
-use program::{MOST_MOVES, MOST_STAGES, Move};
-
-// The end of a move by which it is chained.
-#[derive(Clone, Copy, PartialEq, Eq, Debug)]
-pub enum End {
-    Leaves,
-    Enters,
-}
+use program::lists::Lists;
+use program::{End, MOST_MOVES, MOST_STAGES, Move};
 
 // A link is one more than the number of a move, or 0 where a chain ends. `first` has for each stage the link to its last
 // move, `next` for each move the link to the last move before it with the same end.
@@ -20,16 +14,6 @@ pub enum End {
 pub struct Links {
     pub first: [u16; MOST_STAGES],
     pub next: [u16; MOST_MOVES],
-}
-
-// The stage at the end of a move.
-fn end_of(end: End, m: Move) -> u16
-    ensures { result ≡ end_of end m }
-{
-    match end {
-        End::Leaves => m.leaves,
-        End::Enters => m.enters,
-    }
 }
 
 // Chains the moves by one of their ends.
@@ -42,7 +26,7 @@ fn chain(end: End, n: usize, moves: &[Move]) -> Links
     let mut first = [0u16; MOST_STAGES];
     let mut next = [0u16; MOST_MOVES];
     for (k, m) in moves.iter().enumerate() {
-        let stage = end_of(end, *m) as usize;
+        let stage = m.end(end) as usize;
         next[k] = first[stage];
         first[stage] = k as u16 + 1;
     }
@@ -56,16 +40,23 @@ pub struct Chains {
     pub enters: Links,
 }
 
-impl Chains {
-    pub fn of(n: usize, moves: &[Move]) -> Chains
-        requires stages { n ≤ most_stages }
-        requires moves { length moves.now ≤ most_moves }
-        requires within { Within n moves.now }
-        ensures { ChainsOf n moves.now result }
+// The lists of a program, with their moves chained by either end.
+#[derive(Drop)]
+pub struct Chained<'a> {
+    pub lists: Lists<'a>,
+    pub chains: Chains,
+    pub ghost linked: { ChainsOf (length lists.stages.now) lists.moves.now chains },
+}
+
+impl<'a> Chained<'a> {
+    pub fn of(lists: Lists<'a>) -> Chained<'a>
+        ensures { result.lists ≡ lists.entry }
     {
-        Chains {
-            leaves: chain(End::Leaves, n, moves),
-            enters: chain(End::Enters, n, moves),
-        }
+        let n = lists.stages.len();
+        let chains = Chains {
+            leaves: chain(End::Leaves, n, lists.moves),
+            enters: chain(End::Enters, n, lists.moves),
+        };
+        Chained { lists, chains }
     }
 }

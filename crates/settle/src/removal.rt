@@ -5,7 +5,7 @@ ghost use Rattle.std.specs.Prelude.{slice_index};
 ghost use Rattle.program.specs.Meaning.{most_stages};
 ghost use Rattle.program.specs.Graphs.{timed_move};
 ghost use Rattle.tally.specs.Walks.{among};
-ghost use Rattle.settle.specs.declared.links.End.TheVariants.{Leaves, Enters};
+ghost use Rattle.program.specs.declared.End.TheVariants.{Leaves, Enters};
 ghost use Rattle.settle.specs.Chains.{end_at, Linked, ChainsOf};
 ghost use Rattle.settle.specs.Queues.{Lined};
 ghost use Rattle.settle.specs.Rows.{sort_of};
@@ -33,11 +33,7 @@ fn leads(sort: Sort, m: Move, set: &[u32]) -> bool
     requires { m.enters < length set.now }
     ensures { result ≡ (if sort_of sort (timed_move m) then among set.now m.enters else false) }
 {
-    let counts = match sort {
-        Sort::Any => true,
-        Sort::Still => m.minutes == 0,
-    };
-    counts && set[m.enters as usize] > 0
+    sort.counts(m) && set[m.enters as usize] > 0
 }
 
 impl Removal {

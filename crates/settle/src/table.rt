@@ -6,18 +6,19 @@ ghost use Rattle.tally.specs.Walks.{among, tallied};
 ghost use Rattle.tally.specs.Rounds.{entry, KeptFrom};
 ghost use Rattle.tally.specs.Sweeps.{InPlace, Still, OfAll};
 ghost use Rattle.tally.specs.Tables.{Filled};
-ghost use Rattle.settle.specs.declared.links.End.TheVariants.{Enters};
+ghost use Rattle.program.specs.declared.End.TheVariants.{Enters};
 ghost use Rattle.settle.specs.Chains.{end_at, Linked, ChainsOf};
 ghost use Rattle.settle.specs.Queues.{Waits, Orderly, Lined, AllWait};
 ghost use Rattle.settle.specs.Tended.{Tended, Due, StillPartly, Settles};
 
 use crate::endless::Sort;
-use crate::links::{Chains, Links};
+use crate::links::{Chained, Chains, Links};
 use crate::queue::Queue;
 use crate::removal::Removal;
 use program::{MOST_STAGES, Move};
 use tally::Tally;
 use tally::rows::{begin_row, clear, tallies};
+use tally::walks::Walks;
 
 // A stage is taken out once a round at most. As many rounds as there are stages say all, and after one more none waits.
 const MOST_TURNS: usize = MOST_STAGES * (MOST_STAGES + 1) + 1;
@@ -44,7 +45,7 @@ fn pour_back<T: Tally>(m: Move, pass: &[u32], table: &mut [T], queue: &mut Queue
     let had = table[leaves];
     let more = table[m.enters as usize].before(m.minutes);
     let both = had.choice(more);
-    if had.same(both) {
+    if had == both {
         return true;
     }
     table[leaves] = both;
@@ -157,48 +158,53 @@ fn line_up(
 }
 
 // Fills the first row by the queue, with the choice over all walks. Answers false where it does not come to that.
-fn by_queue<T: Tally>(
-    n: usize,
-    moves: &[Move],
-    chains: &Chains,
-    pass: &[u32],
-    goals: &[u32],
-    table: &mut [T],
-) -> bool
-    requires chains { ChainsOf n moves.now chains.now }
-    requires pass { n ≤ length pass.now }
-    requires goals { n ≤ length goals.now }
-    requires room { n ≤ length table.old }
-    ensures above { KeptFrom T.Tally.algebra n table.old table.new }
-    ensures all { result ≡ true → OfAll T.Tally.algebra n moves.now (among pass.now)
-        (among goals.now) (entry T.Tally.algebra table.new) }
+fn by_queue<T: Tally>(chains: &Chains, walks: &Walks, table: &mut [T]) -> bool
+    requires chains { ChainsOf walks.now.stages walks.now.moves.now chains.now }
+    requires room { walks.now.stages ≤ length table.old }
+    ensures above { KeptFrom T.Tally.algebra walks.now.stages table.old table.new }
+    ensures all { result ≡ true → OfAll T.Tally.algebra walks.now.stages walks.now.moves.now
+        (among walks.now.pass.now) (among walks.now.goals.now) (entry T.Tally.algebra table.new) }
 {
     let mut queue = Queue::empty();
-    begin_row(0, n, goals, table);
-    line_up(n, moves, chains, pass, goals, &mut queue)
-        && flow(n, moves, &chains.enters, pass, table, &mut queue)
+    begin_row(0, walks, table);
+    line_up(
+        walks.stages,
+        walks.moves,
+        chains,
+        walks.pass,
+        walks.goals,
+        &mut queue,
+    ) && flow(
+        walks.stages,
+        walks.moves,
+        &chains.enters,
+        walks.pass,
+        table,
+        &mut queue,
+    )
 }
 
 // Fills the table with the choices over all walks of at most n moves, which are those over all walks.
-pub fn tally_all<T: Tally>(
-    n: usize,
-    moves: &[Move],
-    chains: &Chains,
-    pass: &[u32],
-    goals: &[u32],
-    table: &mut [T],
-)
-    requires chains { ChainsOf n moves.now chains.now }
-    requires pass { n ≤ length pass.now }
-    requires goals { n ≤ length goals.now }
-    requires room { 4 * n ≤ length table.old }
-    requires settles { Settles T.Tally.algebra n moves.now (among pass.now) (among goals.now) }
-    ensures { Filled T.Tally.algebra (tallied T.Tally.algebra moves.now
-        (among pass.now) (among goals.now) n) n table.old table.new }
+pub fn tally_all<T: Tally>(chained: &Chained, pass: &[u32], goals: &[u32], table: &mut [T])
+    requires pass { length chained.now.lists.stages.now ≤ length pass.now }
+    requires goals { length chained.now.lists.stages.now ≤ length goals.now }
+    requires room { 4 * length chained.now.lists.stages.now ≤ length table.old }
+    requires settles { Settles T.Tally.algebra (length chained.now.lists.stages.now) chained.now.lists.moves.now
+        (among pass.now) (among goals.now) }
+    ensures { Filled T.Tally.algebra (tallied T.Tally.algebra chained.now.lists.moves.now
+        (among pass.now) (among goals.now) (length chained.now.lists.stages.now))
+        (length chained.now.lists.stages.now) table.old table.new }
 {
-    if by_queue(n, moves, chains, pass, goals, table) {
-        clear(n, 4 * n, table);
+    let stages = chained.lists.stages.len();
+    let walks = Walks {
+        stages,
+        moves: chained.lists.moves,
+        pass,
+        goals,
+    };
+    if by_queue(&chained.chains, &walks, table) {
+        clear(stages, 4 * stages, table);
     } else {
-        tallies(n, moves, pass, goals, n as u16, table);
+        tallies(&walks, stages as u16, table);
     }
 }

@@ -1,7 +1,7 @@
 -- After as many rounds as there are stages, one more changes nothing: for reach and shortest always, and for longest
 -- where no walk has more moves than there are stages.
 use Rattle.std.proofs.Common.{◌≡◌, ℕ, zero, suc, ◌+◌, ◌<◌, ◌≤◌, min, Bool, T, ◌⊎◌, List, [], ◌∷◌, map, length, sym}
-use Rattle.std.proofs.Common.{refl, ap, ◌∙◌, subst, inl, inr, not-suc-le-zero, arith}
+use Rattle.std.proofs.Common.{refl, ap, Some, true, false, ◌∙◌, subst, inl, inr, not-suc-le-zero, arith}
 use Rattle.std.proofs.lemmas.Bool.{cases_eq}
 use Rattle.tctl.specs.Graph as timed
 use Rattle.tctl.specs.Graph.{size, count, move_at}
@@ -11,13 +11,12 @@ use Rattle.tctl.proofs.Endless.{In, in_pull}
 use Rattle.program.specs.declared.Move.{Move}
 use Rattle.program.specs.Meaning.{Prog}
 use Rattle.program.specs.Graphs.{graph, timed_move}
-use Rattle.tally.specs.declared.Reach.TheVariants as reach
-use Rattle.tally.specs.declared.Shortest.TheVariants as short
+use Rattle.tally.specs.declared.Minutes.{Minutes}
 use Rattle.tally.specs.Algebras.{Algebra, Laws, most_sum, reach_algebra, shortest_algebra, longest_algebra}
 use Rattle.tally.specs.Walks.{Has, Leads, said, chosen, walks}
 use Rattle.tally.specs.Rounds.{rounds, Within}
 use Rattle.tally.specs.Sweeps.{Under, Fixed}
-use Rattle.tally.proofs.Laws.{reach_laws, short_laws, long_laws}
+use Rattle.tally.proofs.Laws.{reach_laws, minutes_laws}
 use Rattle.tally.proofs.Rounds.{rounds_tally}
 use Rattle.tally.proofs.Walked.{all_walks_lem}
 use Rattle.tally.proofs.Sweeps.{has_within, under_same, under_trans, under_both, under_chosen, chosen_under}
@@ -139,14 +138,17 @@ module _ (n : ℕ) (moves : List Move) (within : Within n moves) (goals : ℕ �
 
 -- What is said of one walk
 
-said_reach : (w : List Move) → said reach_algebra w ≡ reach.Sometime
+said_reach : (w : List Move) → said reach_algebra w ≡ reach_algebra.start
 said_reach [] = refl
 said_reach (m ∷ w) = said_reach w
 
-said_short : (w : List Move) → said shortest_algebra w ≡ short.After (min most_sum (minutes w))
+-- There is a walk of so many minutes.
+abbrev lasting : ℕ → Minutes 0
+lasting d = record { 0 = Some d }
+
+said_short : (w : List Move) → said shortest_algebra w ≡ lasting (min most_sum (minutes w))
 said_short [] = refl
-said_short (m ∷ w) =
-    ap (λ x. shortest_algebra.before m.minutes x) (said_short w) ∙ ap short.After (omega arith)
+said_short (m ∷ w) = ap (λ x. shortest_algebra.before m.minutes x) (said_short w) ∙ ap lasting (omega arith)
 
 module _ (n : ℕ) (moves : List Move) (within : Within n moves) (pass goals : ℕ → Bool) where
   pub reach_settles : Fixed reach_algebra n moves pass goals (rounds reach_algebra moves pass goals n)
@@ -165,7 +167,7 @@ module _ (n : ℕ) (moves : List Move) (within : Within n moves) (pass goals : �
 
   pub short_settles : Fixed shortest_algebra n moves pass goals (rounds shortest_algebra moves pass goals n)
   short_settles s l =
-      settles shortest_algebra short_laws moves pass goals n
+      settles shortest_algebra (minutes_laws false) moves pass goals n
       (λ s w h few.
       let v = short_walk n moves within goals pass s w h in
       record { way = v.way; leads = v.leads; few = v.few; more = sooner w v.way v.soon })
@@ -175,19 +177,19 @@ module _ (n : ℕ) (moves : List Move) (within : Within n moves) (pass goals : �
           → Under shortest_algebra (said shortest_algebra w) (said shortest_algebra v)
       sooner w v h =
           ap (λ x. shortest_algebra.choice x (said shortest_algebra v)) (said_short w)
-          ∙ ap (shortest_algebra.choice (short.After (min most_sum (minutes w)))) (said_short v)
-          ∙ ap short.After (omega arith) ∙ sym (said_short v)
+          ∙ ap (shortest_algebra.choice (lasting (min most_sum (minutes w)))) (said_short v)
+          ∙ ap lasting (omega arith) ∙ sym (said_short v)
 
   pub long_settles : ((s : ℕ) (w : List Move) → Leads moves pass goals s w → length w ≤ n)
       → Fixed longest_algebra n moves pass goals (rounds longest_algebra moves pass goals n)
   long_settles none-longer s l =
-      settles longest_algebra long_laws moves pass goals n
+      settles longest_algebra (minutes_laws true) moves pass goals n
       (λ s w h few.
       record {
         way = w;
         leads = h;
         few = none-longer s w h;
-        more = long_laws.idempotent (said longest_algebra w);
+        more = (minutes_laws true).idempotent (said longest_algebra w);
       })
       s
 

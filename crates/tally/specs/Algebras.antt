@@ -1,11 +1,7 @@
 -- What a tally is made of, its laws, and the three tallies: whether there is a walk, the least minutes, the most.
-use Rattle.std.specs.Prelude.{◌≡◌, ℕ, ◌+◌, min, max}
+use Rattle.std.specs.Prelude.{◌≡◌, ℕ, ◌+◌, Bool, true, false, cond, min, max, Option, Some, None}
 use Rattle.tally.specs.declared.Reach.{Reach}
-use Rattle.tally.specs.declared.Reach.TheVariants as reach
-use Rattle.tally.specs.declared.Shortest.{Shortest}
-use Rattle.tally.specs.declared.Shortest.TheVariants as shortest
-use Rattle.tally.specs.declared.Longest.{Longest}
-use Rattle.tally.specs.declared.Longest.TheVariants as longest
+use Rattle.tally.specs.declared.Minutes.{Minutes}
 
 -- Of no walk; of the walk without moves; of one walk or another; of a walk with a move of so many minutes before it.
 pub record Algebra (A : Type 0) : Type 0 where
@@ -26,33 +22,42 @@ pub record Laws {A : Type 0} (K : Algebra A) : Type 0 where
 abbrev pub most_sum : ℕ
 most_sum = 2147483648
 
-abbrev pub either_reach : Reach → Reach → Reach
-either_reach reach.Never b = b
-either_reach reach.Sometime b = reach.Sometime
-
-abbrev pub shorter : Shortest → Shortest → Shortest
-shorter shortest.Never b = b
-shorter (shortest.After a) shortest.Never = shortest.After a
-shorter (shortest.After a) (shortest.After b) = shortest.After (min a b)
-
-abbrev pub short_after : ℕ → Shortest → Shortest
-short_after d shortest.Never = shortest.Never
-short_after d (shortest.After a) = shortest.After (min most_sum (d + a))
-
-abbrev pub longer : Longest → Longest → Longest
-longer longest.Never b = b
-longer (longest.After a) longest.Never = longest.After a
-longer (longest.After a) (longest.After b) = longest.After (max a b)
-
-abbrev pub long_after : ℕ → Longest → Longest
-long_after d longest.Never = longest.Never
-long_after d (longest.After a) = longest.After (min most_sum (d + a))
-
 abbrev pub reach_algebra : Algebra Reach
-reach_algebra = record { none = reach.Never; start = reach.Sometime; choice = either_reach; before = λ d a. a }
+reach_algebra =
+    record {
+      none = record { 0 = false };
+      start = record { 0 = true };
+      choice = λ a b. record { 0 = cond a.0 true b.0 };
+      before = λ d a. a;
+    }
 
-abbrev pub shortest_algebra : Algebra Shortest
-shortest_algebra = record { none = shortest.Never; start = shortest.After 0; choice = shorter; before = short_after }
+-- Of two walks the longer one, or the shorter one.
+abbrev pub pick : Bool → ℕ → ℕ → ℕ
+pick true a b = max a b
+pick false a b = min a b
 
-abbrev pub longest_algebra : Algebra Longest
-longest_algebra = record { none = longest.Never; start = longest.After 0; choice = longer; before = long_after }
+-- The minutes of one walk or another, where there are such walks.
+abbrev pub either_minutes : Bool → Option ℕ → Option ℕ → Option ℕ
+either_minutes longest None b = b
+either_minutes longest (Some a) None = Some a
+either_minutes longest (Some a) (Some b) = Some (pick longest a b)
+
+-- The minutes of a walk with a move before it, where there is such a walk.
+abbrev pub after : ℕ → Option ℕ → Option ℕ
+after d None = None
+after d (Some a) = Some (min most_sum (d + a))
+
+abbrev pub minutes_algebra : {n : ℕ} → Bool → Algebra (Minutes n)
+minutes_algebra longest =
+    record {
+      none = record { 0 = None };
+      start = record { 0 = Some 0 };
+      choice = λ a b. record { 0 = either_minutes longest a.0 b.0 };
+      before = λ d a. record { 0 = after d a.0 };
+    }
+
+abbrev pub shortest_algebra : Algebra (Minutes 0)
+shortest_algebra = minutes_algebra false
+
+abbrev pub longest_algebra : Algebra (Minutes 1)
+longest_algebra = minutes_algebra true

@@ -6,13 +6,14 @@
 
 pub mod rows;
 pub mod tables;
+pub mod walks;
 
-ghost use Rattle.std.specs.Prelude.{◌≡◌, ◌+◌, ◌<◌, min, true};
-ghost use Rattle.tally.specs.Algebras.{Algebra, Laws, most_sum, reach_algebra, shortest_algebra, longest_algebra};
+ghost use Rattle.std.specs.Prelude.{◌≡◌, ◌+◌, min, true};
+ghost use Rattle.tally.specs.Algebras.{Algebra, Laws, most_sum, reach_algebra, minutes_algebra};
 ghost use Rattle.std.proofs.Common.{rules};
 
 // What sums up walks. Its values are those of the type.
-pub trait Tally: Copy {
+pub trait Tally: Copy + PartialEq {
     ghost algebra: { Algebra Self };
 
     // Of no walk at all.
@@ -31,11 +32,10 @@ pub trait Tally: Copy {
     fn before(self, minutes: u16) -> Self
         ensures { result ≡ algebra.before minutes self };
 
-    // Whether the two values are one.
-    fn same(self, other: Self) -> bool
-        ensures { result ≡ true → self ≡ other };
-
     ghost lawful: { Laws algebra };
+
+    // Values that compare as equal are one.
+    ghost exact: { (a b : Self) → Self.PartialEq.eq a b ≡ true → a ≡ b };
 }
 
 // Sums of minutes stop here.
@@ -45,157 +45,69 @@ pub const MOST_SUM: u32 = 2147483648;
 fn added(minutes: u16, more: u32) -> u32
     ensures { result ≡ min most_sum (minutes + more) }
 {
-    let sum = minutes as u64 + more as u64;
-    if sum < MOST_SUM as u64 {
-        sum as u32
-    } else {
-        MOST_SUM
-    }
+    more.saturating_add(u32::from(minutes)).min(MOST_SUM)
 }
 
 // Whether there is a walk.
 #[derive(Clone, Copy, PartialEq, Eq, Debug)]
-pub enum Reach {
-    Never,
-    Sometime,
-}
+pub struct Reach(pub bool);
 
-// The least minutes of a walk.
+// The minutes of the longest walk, or of the shortest; none where there is no walk.
 #[derive(Clone, Copy, PartialEq, Eq, Debug)]
-pub enum Shortest {
-    Never,
-    After(u32),
-}
+pub struct Minutes<const LONGEST: bool>(pub Option<u32>);
 
-// The most minutes of a walk.
-#[derive(Clone, Copy, PartialEq, Eq, Debug)]
-pub enum Longest {
-    Never,
-    After(u32),
-}
+pub type Shortest = Minutes<false>;
+
+pub type Longest = Minutes<true>;
 
 impl Tally for Reach {
     ghost algebra = { reach_algebra };
 
     ghost lawful = { Prim.search rules };
 
-    fn none() -> Reach {
-        Reach::Never
+    ghost exact = { Prim.search rules };
+
+    fn none() -> Self {
+        Reach(false)
     }
 
-    fn start() -> Reach {
-        Reach::Sometime
+    fn start() -> Self {
+        Reach(true)
     }
 
-    fn choice(self, other: Reach) -> Reach {
-        match self {
-            Reach::Never => other,
-            Reach::Sometime => Reach::Sometime,
-        }
+    fn choice(self, other: Self) -> Self {
+        Reach(self.0 || other.0)
     }
 
-    fn before(self, _minutes: u16) -> Reach {
+    fn before(self, _minutes: u16) -> Self {
         self
     }
-
-    fn same(self, other: Reach) -> bool {
-        match self {
-            Reach::Never => match other {
-                Reach::Never => true,
-                Reach::Sometime => false,
-            },
-            Reach::Sometime => match other {
-                Reach::Never => false,
-                Reach::Sometime => true,
-            },
-        }
-    }
 }
 
-impl Tally for Shortest {
-    ghost algebra = { shortest_algebra };
+impl<const LONGEST: bool> Tally for Minutes<LONGEST> {
+    ghost algebra = { minutes_algebra LONGEST };
 
     ghost lawful = { Prim.search rules };
 
-    fn none() -> Shortest {
-        Shortest::Never
+    ghost exact = { Prim.search rules };
+
+    fn none() -> Self {
+        Minutes(None)
     }
 
-    fn start() -> Shortest {
-        Shortest::After(0)
+    fn start() -> Self {
+        Minutes(Some(0))
     }
 
-    fn choice(self, other: Shortest) -> Shortest {
-        match self {
-            Shortest::Never => other,
-            Shortest::After(a) => match other {
-                Shortest::Never => Shortest::After(a),
-                Shortest::After(b) => Shortest::After(if a < b { a } else { b }),
-            },
+    fn choice(self, other: Self) -> Self {
+        match (self.0, other.0) {
+            (Some(a), Some(b)) if LONGEST => Minutes(Some(a.max(b))),
+            (Some(a), Some(b)) => Minutes(Some(a.min(b))),
+            (one, another) => Minutes(one.or(another)),
         }
     }
 
-    fn before(self, minutes: u16) -> Shortest {
-        match self {
-            Shortest::Never => Shortest::Never,
-            Shortest::After(a) => Shortest::After(added(minutes, a)),
-        }
-    }
-
-    fn same(self, other: Shortest) -> bool {
-        match self {
-            Shortest::Never => match other {
-                Shortest::Never => true,
-                Shortest::After(_) => false,
-            },
-            Shortest::After(a) => match other {
-                Shortest::Never => false,
-                Shortest::After(b) => a == b,
-            },
-        }
-    }
-}
-
-impl Tally for Longest {
-    ghost algebra = { longest_algebra };
-
-    ghost lawful = { Prim.search rules };
-
-    fn none() -> Longest {
-        Longest::Never
-    }
-
-    fn start() -> Longest {
-        Longest::After(0)
-    }
-
-    fn choice(self, other: Longest) -> Longest {
-        match self {
-            Longest::Never => other,
-            Longest::After(a) => match other {
-                Longest::Never => Longest::After(a),
-                Longest::After(b) => Longest::After(if a < b { b } else { a }),
-            },
-        }
-    }
-
-    fn before(self, minutes: u16) -> Longest {
-        match self {
-            Longest::Never => Longest::Never,
-            Longest::After(a) => Longest::After(added(minutes, a)),
-        }
-    }
-
-    fn same(self, other: Longest) -> bool {
-        match self {
-            Longest::Never => match other {
-                Longest::Never => true,
-                Longest::After(_) => false,
-            },
-            Longest::After(a) => match other {
-                Longest::Never => false,
-                Longest::After(b) => a == b,
-            },
-        }
+    fn before(self, minutes: u16) -> Self {
+        Minutes(self.0.map(|more| added(minutes, more)))
     }
 }

@@ -1,16 +1,20 @@
 // The table of a tally over any readable program.
-ghost use Rattle.std.specs.Prelude.{◌≡◌, ◌*◌, ◌<◌, ◌≤◌, length, take};
+ghost use Rattle.std.specs.Prelude.{◌≡◌};
 ghost use Rattle.tally.specs.Tables.{Fills, tally_fault_number};
 
 use crate::Tally;
 use crate::rows::tallies;
-use program::{MOST_MOVES, Move, NO_MOVE, Program};
+use crate::walks::Walks;
+use program::Program;
+use program::lists::ProgramCopy;
+use std::error::Error;
+use std::fmt;
 
-// Why a table is not filled.
+// Why a table is not filled, by the number of the refusal.
 #[derive(Clone, Copy, PartialEq, Eq, Debug)]
 pub enum TallyFault {
     // a set has fewer words than there are stages, or the table fewer than four entries a stage
-    ShortMemory,
+    ShortMemory = 15,
 }
 
 impl TallyFault {
@@ -18,22 +22,17 @@ impl TallyFault {
     pub fn number(self) -> u8
         ensures { result ≡ tally_fault_number self }
     {
-        match self {
-            TallyFault::ShortMemory => 15,
-        }
+        self as u8
     }
 }
 
-// Asks the program for each of its moves, once.
-pub fn copy_moves<P: Program>(program: &P, moves: &mut [Move])
-    requires { length (P.Program.meaning program.now).moves ≤ length moves.old }
-    ensures { take (length (P.Program.meaning program.now).moves) moves.new
-        ≡ (P.Program.meaning program.now).moves }
-{
-    for k in 0..program.move_count() {
-        moves[k] = program.move_at(k);
+impl fmt::Display for TallyFault {
+    fn fmt<W: fmt::Write>(&self, f: &mut fmt::Formatter<W>) -> fmt::Result {
+        f.write_str("a set or the table is too short")
     }
 }
+
+impl Error for TallyFault {}
 
 // For each stage the choice over all walks of at most k moves to a goal whose stages before the last are in the set to
 // pass: in the first entries of the table, an entry a stage.
@@ -47,18 +46,17 @@ pub fn fill<T: Tally, P: Program>(
     ensures { Fills T.Tally.algebra (P.Program.meaning program.now)
         pass.now goals.now k table.old table.new result }
 {
-    let n = program.stage_count();
-    if pass.len() < n {
+    let stages = program.stage_count();
+    if pass.len() < stages || goals.len() < stages || table.len() < 4 * stages {
         return Err(TallyFault::ShortMemory);
     }
-    if goals.len() < n {
-        return Err(TallyFault::ShortMemory);
-    }
-    if table.len() < 4 * n {
-        return Err(TallyFault::ShortMemory);
-    }
-    let mut moves = [NO_MOVE; MOST_MOVES];
-    copy_moves(program, &mut moves);
-    tallies(n, &moves[..program.move_count()], pass, goals, k, table);
+    let copy = ProgramCopy::of(program);
+    let walks = Walks {
+        stages,
+        moves: copy.moves.as_slice(),
+        pass,
+        goals,
+    };
+    tallies(&walks, k, table);
     Ok(())
 }

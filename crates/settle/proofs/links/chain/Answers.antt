@@ -19,13 +19,13 @@ loop-k-preserved c =
     let end = c.args.end in
     let moves = c.args.moves.now in
     let k = c.loop-k.k in
-    let stage = c.end_of-stage.result in
+    let stage = c.end-stage.result in
     let first = c.loop-k.first in
     let next = c.loop-k.next in
     let low : stage < c.args.n =
-    subst (λ x. x < c.args.n) (sym c.end_of-stage.ensures)
+    subst (λ x. x < c.args.n) (sym c.end-stage.ensures)
     (end_within end c.args.n moves c.requires.within k c.loop-k-test.true) in (
-      chained_more end c.args.n moves k stage first next c.end_of-stage.ensures (omega arith) (omega arith) low
+      chained_more end c.args.n moves k stage first next c.end-stage.ensures (omega arith) (omega arith) low
           c.loop-k.invariant.0,
       length-set first stage (k + 1) ∙ c.loop-k.invariant.1,
       length-set next k (get_or first stage 0) ∙ c.loop-k.invariant.2,

@@ -3,7 +3,7 @@ use Rattle.std.proofs.lemmas.Bool.{false≢true}
 use Rattle.program.specs.Meaning.{no_move}
 use Rattle.tally.specs.Walks.{among}
 use Rattle.tally.specs.Rounds.{entry}
-use Rattle.settle.specs.declared.links.End.TheVariants.{Enters}
+use Rattle.program.specs.declared.End.TheVariants.{Enters}
 use Rattle.settle.specs.Chains.{end_at, Right}
 use Rattle.settle.specs.Queues.{Waits}
 use Rattle.settle.specs.Tended.{Due}

@@ -1,7 +1,7 @@
 use Rattle.std.proofs.Common.{◌≡◌, ◌-◌, ◌<◌, ◌≤◌, ◌⊎◌, length}
 use Rattle.tally.specs.Walks.{among}
 use Rattle.tally.specs.Rounds.{entry, KeptFrom}
-use Rattle.settle.specs.declared.links.End.TheVariants.{Enters}
+use Rattle.program.specs.declared.End.TheVariants.{Enters}
 use Rattle.settle.specs.Chains.{end_at}
 use Rattle.settle.specs.Queues.{Lined}
 use Rattle.settle.specs.Tended.{Tended, Due, StillPartly}

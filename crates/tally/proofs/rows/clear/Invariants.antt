@@ -1,10 +1,8 @@
-use Rattle.std.proofs.Common.{◌≡◌, ℕ, ◌<◌, ◌≤◌}
-use Rattle.tally.specs.Rounds.{entry, KeptBelow, KeptFrom}
+use Rattle.std.proofs.Common.{◌≡◌, ℕ, ◌<◌}
+use Rattle.tally.specs.Rounds.{entry}
 use Rattle.tally.proofs.rows.clear.Given as goal
 
-abbrev pub invariant-loop-i : goal.invariant-loop-i
-invariant-loop-i g l =
+abbrev pub invariant-loop-entry : goal.invariant-loop-entry
+invariant-loop-entry g l =
     let K = g.T.Tally.algebra in
-    ((i : ℕ) → l.first ≤ i → i < l.i → entry K l.table i ≡ K.none)
-    × KeptBelow K l.first l.initial.table l.table
-    × KeptFrom K l.end l.initial.table l.table
+    (i : ℕ) → i < l.entry-index → entry K l.entry-items i ≡ K.none

@@ -10,15 +10,15 @@ pub loop-m-preserved : goal.loop-m-preserved
 loop-m-preserved g c =
     let K = g.T.Tally.algebra in
     let laws = g.met.T.Tally.lawful in
-    let n = c.args.n in
+    let n = c.args.walks.now.stages in
     let xs = c.loop-m.table in
     let ys = c.pour_one.new.table in
-    let moves = c.args.moves.now in
+    let moves = c.args.walks.now.moves.now in
     let was = λ (t : ℕ). get_or c.args.table.now t K.none in
-    let pass = among c.args.pass.now in
+    let pass = among c.args.walks.now.pass.now in
     let i = c.loop-m.m-index in
     let m : Move = get_or moves i no_move in
-    let within = c.requires.within i c.loop-m-test.true in (
+    let within = c.args.walks.now.within i c.loop-m-test.true in (
       (λ s h.
           rest_step K laws pass was m (drop (i + 1) moves) s (get_or xs (n + s) K.none) (get_or ys (n + s) K.none)
           (λ e.
@@ -41,10 +41,10 @@ pub returns : goal.returns
 returns g c =
     let K = g.T.Tally.algebra in
     let laws = g.met.T.Tally.lawful in
-    let n = c.args.n in
-    let moves = c.args.moves.now in
+    let n = c.args.walks.now.stages in
+    let moves = c.args.walks.now.moves.now in
     let was = λ (t : ℕ). get_or c.args.table.now t K.none in
-    let pass = among c.args.pass.now in
+    let pass = among c.args.walks.now.pass.now in
     record {
       poured = λ s h.
           sym (rest_none K laws pass was s (get_or c.loop-m.table (n + s) K.none))

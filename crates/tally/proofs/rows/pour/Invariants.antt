@@ -7,10 +7,11 @@ use Rattle.tally.proofs.rows.pour.Given as goal
 abbrev pub invariant-loop-m : goal.invariant-loop-m
 invariant-loop-m g l =
     let K = g.T.Tally.algebra in
-    let pass = among l.pass in
-    let left = λ (s : ℕ). cond (pass s) (over K (entry K l.initial.table) (drop l.m-index l.moves) s)
+    let pass = among l.walks.pass.now in
+    let left = λ (s : ℕ). cond (pass s) (over K (entry K l.initial.table) (drop l.m-index l.walks.moves.now) s)
     K.none in
-    ((s : ℕ) → s < l.n → K.choice (entry K l.table (l.n + s)) (left s) ≡ all_poured K l.moves pass l.n
+    ((s : ℕ) → s < l.walks.stages
+    → K.choice (entry K l.table (l.walks.stages + s)) (left s) ≡ all_poured K l.walks.moves.now pass l.walks.stages
     l.initial.table s)
-    × KeptBelow K l.n l.initial.table l.table
-    × KeptFrom K (2 * l.n) l.initial.table l.table
+    × KeptBelow K l.walks.stages l.initial.table l.table
+    × KeptFrom K (2 * l.walks.stages) l.initial.table l.table

@@ -13,14 +13,14 @@ loop-done-init g c =
 pub loop-done-preserved : goal.loop-done-preserved
 loop-done-preserved g c =
     let K = g.T.Tally.algebra in
-    let n = c.args.n in
-    let moves = c.args.moves.now in
-    let pass = among c.args.pass.now in
-    let goals = among c.args.goals.now in
+    let n = c.args.walks.now.stages in
+    let moves = c.args.walks.now.moves.now in
+    let pass = among c.args.walks.now.pass.now in
+    let goals = among c.args.walks.now.goals.now in
     let i = c.loop-done._done in
     let was = λ (t : ℕ). get_or c.loop-done.table t K.none in (
       (λ s h.
-          c.turn.ensures.next s h ∙ round_same K n moves c.requires.within pass goals was
+          c.turn.ensures.next s h ∙ round_same K n moves c.args.walks.now.within pass goals was
           (rounds K moves pass goals i) c.loop-done.invariant.0 s
           ∙ ap (λ x. rounds K moves pass goals x s) (sym (add-one i))),
       (λ j h. c.turn.ensures.above j h ∙ c.loop-done.invariant.1 j h),
@@ -29,19 +29,19 @@ loop-done-preserved g c =
 pub returns-then-turn : goal.returns-then-turn
 returns-then-turn g c =
     let K = g.T.Tally.algebra in
-    let n = c.args.n in
-    let moves = c.args.moves.now in
-    let pass = among c.args.pass.now in
-    let goals = among c.args.goals.now in
+    let n = c.args.walks.now.stages in
+    let moves = c.args.walks.now.moves.now in
+    let pass = among c.args.walks.now.pass.now in
+    let goals = among c.args.walks.now.goals.now in
     let i = c.loop-done._done in
     let was = λ (t : ℕ). get_or c.loop-done.table t K.none in
     let told = c.turn.ensures.told c.if-turn.true in
     record {
       results = λ s h.
           sym (told s h) ∙ c.loop-done.invariant.0 s h
-          ∙ settled K n moves c.requires.within pass goals i
+          ∙ settled K n moves c.args.walks.now.within pass goals i
           (λ t l. sym (c.loop-done.invariant.0 t l) ∙ told t l ∙ c.turn.ensures.next t l
-          ∙ round_same K n moves c.requires.within pass goals was (rounds K moves pass goals i)
+          ∙ round_same K n moves c.args.walks.now.within pass goals was (rounds K moves pass goals i)
           c.loop-done.invariant.0 t)
           c.args.k (omega arith) s h;
       above = λ j h. c.turn.ensures.above j h ∙ c.loop-done.invariant.1 j h ∙ c.begin_row.ensures.above j
@@ -51,9 +51,9 @@ returns-then-turn g c =
 pub returns : goal.returns
 returns g c =
     let K = g.T.Tally.algebra in
-    let moves = c.args.moves.now in
-    let pass = among c.args.pass.now in
-    let goals = among c.args.goals.now in
+    let moves = c.args.walks.now.moves.now in
+    let pass = among c.args.walks.now.pass.now in
+    let goals = among c.args.walks.now.goals.now in
     let i = c.loop-done._done in
     let e : i ≡ c.args.k = omega arith in
     record {

@@ -6,5 +6,6 @@ use Rattle.tally.proofs.rows.repeat.Given as goal
 abbrev pub invariant-loop-done : goal.invariant-loop-done
 invariant-loop-done g l =
     let K = g.T.Tally.algebra in
-    Holding K l.n (rounds K l.moves (among l.pass) (among l.goals) l._done) l.table
-    × KeptFrom K (2 * l.n) l.initial.table l.table
+    Holding K l.walks.stages
+    (rounds K l.walks.moves.now (among l.walks.pass.now) (among l.walks.goals.now) l._done) l.table
+    × KeptFrom K (2 * l.walks.stages) l.initial.table l.table

@@ -1,7 +1,7 @@
 use Rattle.std.proofs.Common.{◌≡◌, ℕ, ◌-◌, ◌<◌, T, ◌⊎◌, List, length, get_or, sym, ap, subst, inl, inr, ⊎_elim, arith}
 use Rattle.program.specs.Meaning.{no_move}
 use Rattle.tally.specs.Walks.{among}
-use Rattle.settle.specs.declared.links.End.TheVariants.{Leaves, Enters}
+use Rattle.program.specs.declared.End.TheVariants.{Leaves, Enters}
 use Rattle.settle.specs.declared.removal.Removal.{Removal}
 use Rattle.settle.specs.Chains.{end_at, Right, Linked}
 use Rattle.settle.specs.Removals.{NoneAtOrPast, Watching, Due, Removes}

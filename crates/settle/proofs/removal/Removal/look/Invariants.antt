@@ -1,6 +1,6 @@
 use Rattle.std.proofs.Common.{◌≡◌, ◌-◌, ◌<◌, ◌≤◌, ◌⊎◌, length}
 use Rattle.tally.specs.Walks.{among}
-use Rattle.settle.specs.declared.links.End.TheVariants.{Enters}
+use Rattle.program.specs.declared.End.TheVariants.{Enters}
 use Rattle.settle.specs.Chains.{end_at}
 use Rattle.settle.specs.Removals.{Watching, Due, Removes}
 use Rattle.settle.proofs.removal.Removal.look.Given as goal

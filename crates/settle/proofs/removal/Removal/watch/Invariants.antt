@@ -1,6 +1,6 @@
 use Rattle.std.proofs.Common.{◌≡◌, ◌-◌, ◌<◌, ◌≤◌, length}
 use Rattle.tally.specs.Walks.{among}
-use Rattle.settle.specs.declared.links.End.TheVariants.{Leaves}
+use Rattle.program.specs.declared.End.TheVariants.{Leaves}
 use Rattle.settle.specs.Chains.{end_at}
 use Rattle.settle.specs.Removals.{NoneAtOrPast}
 use Rattle.settle.proofs.removal.Removal.watch.Given as goal
