@@ -1,10 +1,10 @@
 -- The rows that the untils compute are the theory's lists.
-use Rattle.std.proofs.Common.{◌≡◌, ℕ, suc, ◌-◌, ◌<◌, ◌≤◌, Bool, true, leb, List, map, length, get_or, sym, refl, ap}
+use Rattle.std.proofs.Common.{◌≡◌, ℕ, suc, ◌-◌, ◌<◌, ◌≤◌, Bool, true, false, leb, List, map, length, get_or, sym, refl, ap}
 use Rattle.std.proofs.Common.{◌∙◌, subst}
 use Rattle.tally.specs.Algebras.{most_sum, reach_algebra, shortest_algebra, longest_algebra}
 use Rattle.tally.specs.Walks.{among, tallied}
 use Rattle.tally.specs.Rounds.{Within}
-use Rattle.tally.proofs.Laws.{reach_laws, short_laws, long_laws}
+use Rattle.tally.proofs.Laws.{reach_laws, minutes_laws}
 use Rattle.tctl.specs.Graph.{Graph, Stage, size}
 use Rattle.program.specs.declared.Stage as program
 use Rattle.program.specs.declared.Move.{Move}
@@ -145,7 +145,7 @@ module _ (S : List Stage) (moves : List Move) (f g : List ℕ) where
         → short_to c (tallied shortest_algebra moves (among pass) (among goals) n s)
         ≡ most? c (get_or (tally p shortest P Q n) s none)
     short_at pass goals P Q ep eq c b s h =
-        told_short S moves within pass goals c n s h short_laws b
+        told_short S moves within pass goals c n s h (minutes_laws false) b
         ∙ ap (λ (x : List Bool). most? c (get_or (tally p shortest x (row n goals) n) s none)) ep
         ∙ ap (λ (x : List Bool). most? c (get_or (tally p shortest P x n) s none)) eq
 
@@ -154,7 +154,7 @@ module _ (S : List Stage) (moves : List Move) (f g : List ℕ) where
         → long_from c (tallied longest_algebra moves (among pass) (among goals) n s)
         ≡ least? c (get_or (tally p longest P Q n) s none)
     long_at pass goals P Q ep eq c b s h =
-        told_long S moves within pass goals c n s h long_laws b
+        told_long S moves within pass goals c n s h (minutes_laws true) b
         ∙ ap (λ (x : List Bool). least? c (get_or (tally p longest x (row n goals) n) s none)) ep
         ∙ ap (λ (x : List Bool). least? c (get_or (tally p longest P x n) s none)) eq
 

@@ -1,15 +1,11 @@
 -- What the tallies of the code tell is what the theory's tallies tell.
 use Rattle.std.proofs.Common.{◌≡◌, ℕ, zero, suc, ◌<◌, ◌≤◌, min, Bool, true, false, cond, eqb, List, [], ◌∷◌, map}
-use Rattle.std.proofs.Common.{length, get_or, sym, refl, ap, ◌∙◌, ⊎_elim, arith}
+use Rattle.std.proofs.Common.{length, get_or, Some, sym, refl, ap, ◌∙◌, ⊎_elim, arith}
 use Rattle.std.proofs.lemmas.Bool.{cases_lt, le-leb, lt-leb}
 use Rattle.program.specs.declared.Move.{Move}
 use Rattle.program.specs.Graphs.{timed_move}
 use Rattle.tally.specs.declared.Reach.{Reach}
-use Rattle.tally.specs.declared.Reach.TheVariants as reach
-use Rattle.tally.specs.declared.Shortest.{Shortest}
-use Rattle.tally.specs.declared.Shortest.TheVariants as short
-use Rattle.tally.specs.declared.Longest.{Longest}
-use Rattle.tally.specs.declared.Longest.TheVariants as long
+use Rattle.tally.specs.declared.Minutes.{Minutes}
 use Rattle.tally.specs.Algebras.{Algebra, Laws, most_sum, reach_algebra, shortest_algebra, longest_algebra}
 use Rattle.tally.specs.Walks.{among, tallied}
 use Rattle.tally.specs.Rounds.{Within, over, begins, rounds}
@@ -89,16 +85,20 @@ module _ {A : Type 0} (k : th.Kind) (K : Algebra A) (h : Entry → A) (hom : Hom
 -- The three tallies
 
 abbrev to_reach : Entry → Reach
-to_reach none = reach.Never
-to_reach (sum a) = reach.Sometime
+to_reach none = reach_algebra.none
+to_reach (sum a) = reach_algebra.start
 
-abbrev to_short : Entry → Shortest
-to_short none = short.Never
-to_short (sum a) = short.After (min most_sum a)
+-- There is a walk of so many minutes.
+abbrev lasting : {n : ℕ} → ℕ → Minutes n
+lasting d = record { 0 = Some d }
 
-abbrev to_long : Entry → Longest
-to_long none = long.Never
-to_long (sum a) = long.After (min most_sum a)
+abbrev to_short : Entry → Minutes 0
+to_short none = shortest_algebra.none
+to_short (sum a) = lasting (min most_sum a)
+
+abbrev to_long : Entry → Minutes 1
+to_long none = longest_algebra.none
+to_long (sum a) = lasting (min most_sum a)
 
 reach_choice : (u v : Entry) → to_reach (th.choice shortest u v) ≡ reach_algebra.choice (to_reach u) (to_reach v)
 reach_choice none v = refl
@@ -112,20 +112,20 @@ reach_before d (sum a) = refl
 short_choice : (u v : Entry) → to_short (th.choice shortest u v) ≡ shortest_algebra.choice (to_short u) (to_short v)
 short_choice none v = refl
 short_choice (sum a) none = refl
-short_choice (sum a) (sum b) = ap short.After (omega arith)
+short_choice (sum a) (sum b) = ap lasting (omega arith)
 
 short_before : (d : ℕ) (u : Entry) → to_short (th.after d u) ≡ shortest_algebra.before d (to_short u)
 short_before d none = refl
-short_before d (sum a) = ap short.After (omega arith)
+short_before d (sum a) = ap lasting (omega arith)
 
 long_choice : (u v : Entry) → to_long (th.choice longest u v) ≡ longest_algebra.choice (to_long u) (to_long v)
 long_choice none v = refl
 long_choice (sum a) none = refl
-long_choice (sum a) (sum b) = ap long.After (omega arith)
+long_choice (sum a) (sum b) = ap lasting (omega arith)
 
 long_before : (d : ℕ) (u : Entry) → to_long (th.after d u) ≡ longest_algebra.before d (to_long u)
 long_before d none = refl
-long_before d (sum a) = ap long.After (omega arith)
+long_before d (sum a) = ap lasting (omega arith)
 
 reach_hom : Hom shortest reach_algebra to_reach
 reach_hom = record { to_none = refl; to_start = refl; to_choice = reach_choice; to_before = reach_before }

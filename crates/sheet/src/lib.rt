@@ -5,6 +5,7 @@
 
 pub mod parts;
 pub mod sheets;
+pub mod tables;
 pub mod told;
 pub mod untils;
 pub mod words;

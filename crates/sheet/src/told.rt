@@ -8,6 +8,7 @@ ghost use Rattle.sheet.specs.Told.{reaches, short_to, long_from, Spent};
 
 use program::Move;
 use tally::rows::{clear, tallies};
+use tally::walks::Walks;
 use tally::{Longest, Reach, Shortest, Tally};
 
 // A tally that is asked about a number of minutes.
@@ -23,10 +24,7 @@ impl Told for Reach {
     ghost tells = { reaches };
 
     fn told(self, _minutes: u32) -> bool {
-        match self {
-            Reach::Never => false,
-            Reach::Sometime => true,
-        }
+        self.0
     }
 }
 
@@ -35,10 +33,7 @@ impl Told for Shortest {
     ghost tells = { short_to };
 
     fn told(self, minutes: u32) -> bool {
-        match self {
-            Shortest::Never => false,
-            Shortest::After(a) => a <= minutes,
-        }
+        self.0.is_some_and(|a| a <= minutes)
     }
 }
 
@@ -47,10 +42,7 @@ impl Told for Longest {
     ghost tells = { long_from };
 
     fn told(self, minutes: u32) -> bool {
-        match self {
-            Longest::Never => false,
-            Longest::After(a) => minutes <= a,
-        }
+        self.0.is_some_and(|a| minutes <= a)
     }
 }
 
@@ -89,7 +81,13 @@ pub(crate) fn tell<T: Told>(
     ensures above { RestKept n out.old out.new }
     ensures spent { Spent T.Tally.algebra.none n entries.old entries.new }
 {
-    tallies(n, moves, pass, goals, n as u16, entries);
+    let walks = Walks {
+        stages: n,
+        moves,
+        pass,
+        goals,
+    };
+    tallies(&walks, n as u16, entries);
     tell_row(n, minutes, entries, out);
     clear(0, n, entries);
 }
