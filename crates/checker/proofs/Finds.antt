@@ -6,8 +6,8 @@ use Rattle.std.proofs.lemmas.List.{length-map}
 use Rattle.std.proofs.lemmas.Bool.{cases_Bool}
 use Rattle.program.specs.declared.Stage.{Stage}
 use Rattle.program.specs.declared.Move.{Move}
-use Rattle.program.specs.Meaning.{Prog, no_move}
-use Rattle.program.specs.Graphs.{timed_stage, timed_move}
+use Rattle.program.specs.Meaning.{Prog, prog, no_move}
+use Rattle.program.specs.Graphs.{timed_stage, timed_move, graph_of}
 use Rattle.tally.specs.Rounds.{Within}
 use Rattle.tctl.specs.Graph as timed
 use Rattle.tctl.specs.Runs.{Sound}
@@ -15,7 +15,7 @@ use Rattle.tctl.specs.Checker.{non, at, table, endless, still, any_move, into, a
 use Rattle.tctl.proofs.Basics.{and_l, and_r, and_i, table_e, table_i}
 use Rattle.tctl.proofs.Endless.{into_i, in_step, in_set, in_pull, fixed}
 use Rattle.tctl.proofs.Tested.{all_i, test_right_lem}
-use Rattle.sheet.specs.Rows.{prog, graph_of, both}
+use Rattle.sheet.specs.Rows.{both}
 use Rattle.sheet.proofs.Sets.{timed_move_at}
 use Rattle.checker.specs.Outcomes.{Memory, Enough, AllOnward, Cycle}
 use Rattle.checker.specs.Found.{enough?, ahead, steps}

@@ -3,3 +3,4 @@ pub mod Outcomes
 pub mod Found
 pub mod Checks
 pub mod Theorems
+pub mod Desks

@@ -4,10 +4,10 @@ use Rattle.program.specs.declared.Move.{Move}
 use Rattle.program.specs.Meaning.{Prog, move_at}
 use Rattle.rules.specs.declared.line.Line.{Line}
 use Rattle.tally.specs.declared.Reach.{Reach}
-use Rattle.tally.specs.declared.Shortest.{Shortest}
-use Rattle.tally.specs.declared.Longest.{Longest}
+use Rattle.tally.specs.declared.Minutes.{Minutes}
 use Rattle.tally.specs.Algebras.{reach_algebra, shortest_algebra, longest_algebra}
 use Rattle.tally.specs.Walks.{Has}
+use Rattle.sheet.specs.declared.tables.Tables.{Tables}
 use Rattle.sheet.specs.Told.{Spent}
 use Rattle.sheet.specs.Sheets.{Names}
 use Rattle.checker.specs.declared.faults.CheckFault.{CheckFault}
@@ -46,12 +46,16 @@ pub record Checkable (p : Prog) : Type 0 where
 pub record Memory : Type 0 where
   pub sheet : List ℕ
   pub reached : List Reach
-  pub shortest : List Shortest
-  pub longest : List Longest
+  pub shortest : List (Minutes 0)
+  pub longest : List (Minutes 1)
 
-abbrev pub memory : List ℕ → List Reach → List Shortest → List Longest → Memory
+abbrev pub memory : List ℕ → List Reach → List (Minutes 0) → List (Minutes 1) → Memory
 memory sheet reached shortest longest =
     record { sheet = sheet; reached = reached; shortest = shortest; longest = longest }
+
+-- The memory that a sheet and tables are.
+abbrev pub held : List ℕ → Tables → Memory
+held sheet tables = memory sheet tables.reached.now tables.shortest.now tables.longest.now
 
 -- A word a stage in the sheet, and four entries a stage in each table.
 abbrev pub Enough : ℕ → Memory → Type 0

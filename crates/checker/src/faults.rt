@@ -1,5 +1,6 @@
 // Why a check is refused.
 ghost use Rattle.std.specs.Prelude.{◌≡◌};
+ghost use Rattle.checker.specs.declared.faults.CheckFault.TheVariants.{Text};
 ghost use Rattle.checker.specs.Faults.{fault_number, fault_part, fault_stage};
 
 use reader::ReadFault;
@@ -31,5 +32,14 @@ impl CheckFault {
             CheckFault::StillCycle(s) => (14, 1, s),
             CheckFault::ShortMemory => (15, 2, 0),
         }
+    }
+}
+
+// The reader's fault is carried whole.
+impl From<ReadFault> for CheckFault {
+    ghost from_gives = { λ fault e. e ≡ Text fault };
+
+    fn from(fault: ReadFault) -> CheckFault {
+        CheckFault::Text(fault)
     }
 }

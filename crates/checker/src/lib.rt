@@ -4,11 +4,13 @@
 
 #![tactic(auto)]
 
+pub mod desk;
 pub mod faults;
 pub mod rows;
 pub mod run;
 pub mod tests;
 pub mod theorems;
 
+pub use crate::desk::Desk;
 pub use crate::faults::CheckFault;
 pub use crate::run::check;

@@ -1,21 +1,23 @@
 // What a program has to have, so that rules can be checked on it: each stage a move out, and no cycle of moves that
 // take no time.
 ghost use Rattle.std.specs.Prelude.{◌≡◌, ◌<◌, ◌≤◌, length};
-ghost use Rattle.program.specs.Meaning.{most_stages};
+ghost use Rattle.program.specs.Meaning.{prog};
 ghost use Rattle.tally.specs.Walks.{among};
 ghost use Rattle.tally.specs.Rounds.{Within};
-ghost use Rattle.sheet.specs.Rows.{prog};
 ghost use Rattle.checker.specs.Found.{DeadFound, CycleFound, Found, meets, ahead, steps};
 
-use program::{MOST_STAGES, Move, Stage};
-use sheet::parts::{Sort, keep_endless};
+use program::lists::Lists;
+use program::{MOST_STAGES, Move};
+use settle::endless::{Sort, keep_endless};
+use settle::links::Chained;
 
 // The lowest stage that no move leaves.
-pub fn dead_end(stages: &[Stage], moves: &[Move]) -> Option<usize>
-    ensures { DeadFound (prog stages.now moves.now) result }
+pub fn dead_end(lists: &Lists) -> Option<usize>
+    ensures { DeadFound (prog lists.now.stages.now lists.now.moves.now) result }
 {
-    'stages: for s in 0..stages.len() {
-        for m in moves {
+    // Stages by moves, left by a label: the form that the project asks for here.
+    'stages: for s in 0..lists.stages.len() {
+        for m in lists.moves {
             if m.leaves as usize == s {
                 continue 'stages;
             }
@@ -25,32 +27,20 @@ pub fn dead_end(stages: &[Stage], moves: &[Move]) -> Option<usize>
     None
 }
 
-// The first stage in a set.
+// The first stage in a set of n stages.
 fn first_in(n: usize, set: &[u32]) -> Option<usize>
     requires { n ≤ length set.now }
     ensures { Found n (among set.now) result }
 {
-    for s in 0..n {
-        if set[s] > 0 {
-            return Some(s);
-        }
-    }
-    None
+    set[..n].iter().position(|word| *word > 0)
 }
 
+// Whether a move leads on from a stage into a set, and takes no time.
 fn leads_on(m: Move, set: &[u32], s: usize) -> bool
     requires { m.enters < length set.now }
     ensures { result ≡ meets (among set.now) m s }
 {
-    if m.leaves as usize == s {
-        if m.minutes == 0 {
-            set[m.enters as usize] > 0
-        } else {
-            false
-        }
-    } else {
-        false
-    }
+    m.leaves as usize == s && Sort::Still.counts(m) && set[m.enters as usize] > 0
 }
 
 // Where the first 0-minute move from a stage into a set leads.
@@ -79,16 +69,13 @@ fn follow(n: usize, moves: &[Move], set: &[u32], s: usize) -> usize
 }
 
 // A stage on a cycle of moves that take no time.
-pub(crate) fn still_stage(stages: &[Stage], moves: &[Move]) -> Option<usize>
-    requires few { length stages.now ≤ most_stages }
-    requires within { Within (length stages.now) moves.now }
-    ensures { CycleFound (prog stages.now moves.now) result }
+pub(crate) fn still_stage(chained: &Chained) -> Option<usize>
+    ensures { CycleFound (prog chained.now.lists.stages.now chained.now.lists.moves.now) result }
 {
+    let lists = chained.lists;
+    let n = lists.stages.len();
     let mut set = [1u32; MOST_STAGES];
-    let mut has = [0u32; MOST_STAGES];
-    keep_endless(Sort::Still, stages, moves, &mut set, &mut has);
-    match first_in(stages.len(), &set) {
-        Some(s) => Some(follow(stages.len(), moves, &set, s)),
-        None => None,
-    }
+    keep_endless(Sort::Still, chained, &mut set);
+    let first = first_in(n, &set)?;
+    Some(follow(n, lists.moves, &set, first))
 }

@@ -1,37 +1,41 @@
-use Rattle.std.proofs.Common.{length, sym, refl, ◌∙◌, arith}
-use Rattle.checker.specs.Outcomes.{memory}
+use Rattle.std.proofs.Common.{ℕ, ◌<◌, length, sym, refl, subst, ◌∙◌, arith}
+use Rattle.program.specs.declared.lists.Lists.{Lists}
+use Rattle.program.specs.Meaning.{prog}
+use Rattle.checker.specs.Outcomes.{held, Cycle}
 use Rattle.checker.proofs.Finds.{sound_if, enough_if, short_if}
 use Rattle.checker.proofs.rows.check_rows.Goals as goal
 
-pub returns-in-Some-still_stage : goal.returns-in-Some-still_stage
-returns-in-Some-still_stage c =
-    let found = c.in-Some-still_stage.ensures in
+pub returns-in-Some-still_stage-clause-does : goal.returns-in-Some-still_stage-clause-does
+returns-in-Some-still_stage-clause-does c =
+    let found = subst (λ (l : Lists). (c.in-Some-still_stage.s < length l.stages.now)
+    × Cycle (prog l.stages.now l.moves.now) c.in-Some-still_stage.s) c.of-chained.ensures c.in-Some-still_stage.ensures in
     ((c.in_default.ensures, found.0, found.1), refl)
 
-pub returns-then-not-has_room : goal.returns-then-not-has_room
-returns-then-not-has_room c =
-    let was =
-    memory c.args.sheet.now c.args.reached.now c.args.shortest.now
-    c.args.longest.now in (
+pub returns-then-not-has_room-clause-does : goal.returns-then-not-has_room-clause-does
+returns-then-not-has_room-clause-does c =
+    let still = subst (λ (l : Lists). (s : ℕ) → Cycle (prog l.stages.now l.moves.now) s → ⊥) c.of-chained.ensures
+    c.in_default-still_stage.ensures in
+    let was = held c.args.sheet.now c.args.tables.now in (
       (
-        record { some = omega arith; onward = c.in_default.ensures; moving = c.in_default-still_stage.ensures },
-        short_if (length c.args.stages.now) was (sym c.if-not-has_room.ensures),
+        record { some = omega arith; onward = c.in_default.ensures; moving = still },
+        short_if (length c.args.lists.now.stages.now) was (sym c.if-not-has_room.ensures),
       ),
       refl,
     )
 
 pub check_lines-requires : goal.check_lines-requires
 check_lines-requires c =
-    let was =
-    memory c.args.sheet.now c.args.reached.now c.args.shortest.now
-    c.args.longest.now in
-    let enough = enough_if (length c.args.stages.now) was (sym c.has_room.ensures ∙ c.if-not-has_room.false)
-    in
+    let still = subst (λ (l : Lists). (s : ℕ) → Cycle (prog l.stages.now l.moves.now) s → ⊥) c.of-chained.ensures
+    c.in_default-still_stage.ensures in
+    let lists = c.args.lists.now in
+    let was = held c.args.sheet.now c.args.tables.now in
+    let enough = enough_if (length lists.stages.now) was (sym c.has_room.ensures ∙ c.if-not-has_room.false) in
     record {
-      few = c.requires.few;
+      few = lists.limits.few_stages;
       sound =
-          sound_if c.args.stages.now c.args.moves.now c.requires.within c.in_default.ensures
-          c.in_default-still_stage.ensures;
+          sound_if lists.stages.now lists.moves.now
+          (λ k h. ((lists.limits.ends k h).0, (lists.limits.ends k h).1)) c.in_default.ensures
+          still;
       lines = c.requires.lines;
       formed = c.requires.formed;
       sheet = enough.0;
@@ -40,15 +44,15 @@ check_lines-requires c =
       room_longest = enough.3;
     }
 
-pub returns : goal.returns
-returns c =
+pub returns-clause-does : goal.returns-clause-does
+returns-clause-does c =
+    let still = subst (λ (l : Lists). (s : ℕ) → Cycle (prog l.stages.now l.moves.now) s → ⊥) c.of-chained.ensures
+    c.in_default-still_stage.ensures in
     let all = c.check_lines.ensures in
-    let was =
-    memory c.args.sheet.now c.args.reached.now c.args.shortest.now
-    c.args.longest.now in (
+    let was = held c.args.sheet.now c.args.tables.now in (
       (
-        record { some = omega arith; onward = c.in_default.ensures; moving = c.in_default-still_stage.ensures },
-        enough_if (length c.args.stages.now) was (sym c.has_room.ensures ∙ c.if-not-has_room.false),
+        record { some = omega arith; onward = c.in_default.ensures; moving = still },
+        enough_if (length c.args.lists.now.stages.now) was (sym c.has_room.ensures ∙ c.if-not-has_room.false),
       ),
       refl,
       record {

@@ -1,15 +1,16 @@
-use Rattle.std.proofs.Common.{◌≡◌, ℕ, ◌<◌, ◌≤◌, Bool, true, ltb, List, length, replicate, sym, ap, ◌∙◌, arith}
+use Rattle.std.proofs.Common.{◌≡◌, ℕ, ◌<◌, ◌≤◌, Bool, true, ltb, List, length, replicate, sym, ap, subst, ◌∙◌, arith}
 use Rattle.std.proofs.lemmas.List.{get_or-replicate, length-map}
 use Rattle.program.specs.declared.Stage.{Stage}
 use Rattle.program.specs.declared.Move.{Move}
-use Rattle.program.specs.Meaning.{most_stages}
-use Rattle.program.specs.Graphs.{timed_stage}
+use Rattle.program.specs.Meaning.{most_stages, prog}
+use Rattle.program.specs.Graphs.{timed_stage, graph_of}
 use Rattle.tally.specs.Walks.{among}
 use Rattle.tally.specs.Rounds.{Within}
 use Rattle.tctl.specs.Checker.{table, endless, still}
-use Rattle.sheet.specs.Rows.{graph_of, row}
+use Rattle.settle.specs.Rows.{row}
 use Rattle.sheet.proofs.Sets.{table_same}
 use Rattle.sheet.proofs.Cases.{in_row}
+use Rattle.checker.specs.Found.{CycleFound}
 use Rattle.checker.proofs.Finds.{rests, cycle_if, no_cycle}
 use Rattle.checker.proofs.tests.still_stage.Goals as goal
 
@@ -29,21 +30,24 @@ left_rests stages moves within set few e =
     (table_same (among ones) (λ s. true) n (λ s h. ap (ltb 0) (get_or-replicate most_stages s 1 0 (omega arith))))
     ∙ ap (λ k. endless p still (table k (λ s. true)) k) (sym (length-map stages timed_stage)))
 
-pub returns-in-Some : goal.returns-in-Some
-returns-in-Some c =
-    let stages = c.args.stages.now in
-    let moves = c.args.moves.now in
+pub returns : goal.returns
+returns c =
+    let stages = c.args.chained.now.lists.stages.now in
+    let moves = c.args.chained.now.lists.moves.now in
+    let linked = c.args.chained.now.linked.leaves in
     let set = c.keep_endless.new.set in
-    let found = c.in-Some.ensures in
-    cycle_if stages moves c.requires.within (among set)
-    (left_rests stages moves c.requires.within set c.requires.few c.keep_endless.ensures.left)
-    c.in-Some.s found.0 found.1 c.follow.result c.follow.ensures
+    let found = c.in_ok-first.ensures in
+    cycle_if stages moves linked.within (among set)
+    (left_rests stages moves linked.within set linked.few_stages c.keep_endless.ensures.left)
+    c.in_ok-first.first found.0 found.1 c.follow.result c.follow.ensures
 
-pub returns-in-None : goal.returns-in-None
-returns-in-None c =
-    let stages = c.args.stages.now in
-    let moves = c.args.moves.now in
+pub returns-in_err-first : goal.returns-in_err-first
+returns-in_err-first c =
+    let stages = c.args.chained.now.lists.stages.now in
+    let moves = c.args.chained.now.lists.moves.now in
+    let linked = c.args.chained.now.linked.leaves in
     let set = c.keep_endless.new.set in
-    no_cycle stages moves c.requires.within
-    (λ s l. sym (left_rests stages moves c.requires.within set c.requires.few c.keep_endless.ensures.left s l)
-    ∙ c.in-None.ensures s l)
+    subst (CycleFound (prog stages moves)) (sym c.from_residual.ensures)
+    (no_cycle stages moves linked.within
+    (λ s l. sym (left_rests stages moves linked.within set linked.few_stages c.keep_endless.ensures.left s l)
+    ∙ c.in_err-first.ensures s l))
