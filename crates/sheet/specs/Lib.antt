@@ -1,4 +1,4 @@
-pub mod Rows
-pub mod Ops
+pub mod Sets
 pub mod Told
+pub mod Tables
 pub mod Sheets

@@ -1,23 +1,25 @@
 -- What a tally tells of a number of minutes, and a table before and after its use.
-use Rattle.std.specs.Prelude.{◌≡◌, ℕ, ◌*◌, ◌<◌, ◌≤◌, Bool, true, false, List, nat_le, slice_index_or}
+use Rattle.std.specs.Prelude.{◌≡◌, ℕ, ◌*◌, ◌<◌, ◌≤◌, Bool, true, false, List, Option, Some, None, nat_le, slice_index_or}
 use Rattle.tally.specs.declared.Reach.{Reach}
-use Rattle.tally.specs.declared.Reach.TheVariants as reach
-use Rattle.tally.specs.declared.Shortest.{Shortest}
-use Rattle.tally.specs.declared.Shortest.TheVariants as shortest
-use Rattle.tally.specs.declared.Longest.{Longest}
-use Rattle.tally.specs.declared.Longest.TheVariants as longest
+use Rattle.tally.specs.declared.Minutes.{Minutes}
 
 abbrev pub reaches : ℕ → Reach → Bool
-reaches c reach.Never = false
-reaches c reach.Sometime = true
+reaches c a = a.0
 
-abbrev pub short_to : ℕ → Shortest → Bool
-short_to c shortest.Never = false
-short_to c (shortest.After a) = nat_le a c
+-- Whether the longest walk has so many minutes or more, or the shortest so many or fewer.
+abbrev pub bounded : Bool → ℕ → Option ℕ → Bool
+bounded longest c None = false
+bounded true c (Some a) = nat_le c a
+bounded false c (Some a) = nat_le a c
 
-abbrev pub long_from : ℕ → Longest → Bool
-long_from c longest.Never = false
-long_from c (longest.After a) = nat_le c a
+abbrev pub minutes_tell : {n : ℕ} → Bool → ℕ → Minutes n → Bool
+minutes_tell longest c a = bounded longest c a.0
+
+abbrev pub short_to : ℕ → Minutes 0 → Bool
+short_to = minutes_tell false
+
+abbrev pub long_from : ℕ → Minutes 1 → Bool
+long_from = minutes_tell true
 
 -- A table after its use: the first four entries a stage are none, the rest is as found.
 pub record Spent {A : Type 0} (none : A) (n : ℕ) (was after : List A) : Type 0 where
