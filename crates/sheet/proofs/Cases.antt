@@ -99,8 +99,8 @@ module _ (S : List Stage) (moves : List Move) (f g : ℕ → Bool) where
       → Passes n pass
       → Agree n before (into any_move p.moves (table n doomed))
       → Agree n goals (λ s. (open? p s and non (f s)) or (pass s and before s))
-      → Agree n soon (λ s. leb 1 c and short_to (c - 1) (tallied shortest_algebra moves pass goals n s))
-      → Agree n out (λ s. open? p s and non (doomed s or soon s))
+      → Agree n soon (λ s. short_to (c - 1) (tallied shortest_algebra moves pass goals n s))
+      → Agree n out (λ s. open? p s and non (doomed s or (leb 1 c and soon s)))
       → table n out ≡ each_list p (table n f) (least c) (table n g)
 
   module _ (within : Within (size p) moves) where
@@ -249,9 +249,9 @@ module _ (S : List Stage) (moves : List Move) (f g : ℕ → Bool) where
         (λ s. open? p s and non (at V s or (leb 1 c and most? (c - 1) (get_or (tally p shortest Pass H n) s none))))
         n
         (λ s h.
-        eo s h ∙ ap (λ y. open? p s and non (y or soon s)) (in_list doomed V ve s h)
-        ∙ ap (λ y. open? p s and non (at V s or y))
-        (et s h ∙ ap (λ y. leb 1 c and y) (short_at pass goals Pass H ep he (c - 1) b s h)))
+        eo s h ∙ ap (λ y. open? p s and non (y or (leb 1 c and soon s))) (in_list doomed V ve s h)
+        ∙ ap (λ y. open? p s and non (at V s or (leb 1 c and y)))
+        (et s h ∙ short_at pass goals Pass H ep he (c - 1) b s h))
 
 -- The same, of a program's own stages.
 module _ (chained : Chained) (f g : StageSet) where

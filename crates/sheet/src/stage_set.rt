@@ -35,6 +35,14 @@ impl StageSet {
         self.words[s] > 0
     }
 
+    // What is left of the first n stages without those of another set.
+    pub fn without(&self, n: usize, other: &StageSet) -> StageSet
+        requires { n ≤ most_stages }
+        ensures { Says n result (λ s. has self.now s and non (has other.now s)) }
+    {
+        StageSet::of(n, |s| self.has(s) && !other.has(s))
+    }
+
     // The greatest part in which each stage has a move into the part.
     pub fn endless(&self, chained: &Chained) -> StageSet
         ensures { listed (stage_count chained.now) result
@@ -78,11 +86,4 @@ pub(crate) fn is_open(chained: &Chained, s: usize) -> bool
     ensures { result ≡ open? (timed chained.now) s }
 {
     chained.lists.stages[s].kind == Kind::Open
-}
-
-// Or f.
-fn test_set(chained: &Chained, f: &StageSet) -> StageSet
-    ensures { Says (stage_count chained.now) result (λ s. non (open? (timed chained.now) s) or has f.now s) }
-{
-    StageSet::of(chained.lists.stages.len(), |s| !is_open(chained, s) || f.has(s))
 }

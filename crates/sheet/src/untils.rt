@@ -1,1 +1,165 @@
-// Untils.
+// The four untils, each from the sets of the stages where its parts hold. A stage may be passed if it is silent, or if the
+// left part holds there.
+ghost use Rattle.std.specs.Prelude.{◌-◌, ◌*◌, ◌≤◌, length, nat_le};
+ghost use Rattle.rules.specs.Lines.{largest_number};
+ghost use Rattle.tally.specs.Algebras.{reach_algebra, shortest_algebra, longest_algebra};
+ghost use Rattle.tally.specs.Walks.{tallied};
+ghost use Rattle.tctl.specs.Checker.{non, some_list, each_list, open?, ◌and◌, ◌or◌};
+ghost use Rattle.tctl.specs.Rules.{most, least};
+ghost use Rattle.sheet.specs.Sets.{has, stage_count, timed, Says, UntilSet};
+ghost use Rattle.sheet.specs.Told.{Spent, reaches, short_to};
+ghost use Rattle.sheet.specs.Tables.{HaveRoom, AreBlank, AreSpent, SameSlices};
+
+use crate::stage_set::{StageSet, is_open};
+use crate::tables::Tables;
+use crate::told::tell;
+use settle::links::Chained;
+use tally::{Reach, Shortest};
+
+// Where there is a walk.
+fn reached(chained: &Chained, pass: &StageSet, goals: &StageSet, table: &mut [Reach]) -> StageSet
+    requires room { 4 * stage_count chained.now ≤ length table.old }
+    ensures is { Says (stage_count chained.now) result (λ s. reaches 0
+        (tallied reach_algebra chained.now.lists.moves.now (has pass.now) (has goals.now)
+        (stage_count chained.now) s)) }
+    ensures spent { Spent reach_algebra.none (stage_count chained.now) table.old table.new }
+{
+    tell(chained, pass, goals, 0, table)
+}
+
+// Silent, or f.
+fn passes(chained: &Chained, f: &StageSet) -> StageSet
+    ensures { Says (stage_count chained.now) result
+        (λ s. non (open? (timed chained.now) s) or has f.now s) }
+{
+    StageSet::of(chained.lists.stages.len(), |s| {
+        !is_open(chained, s) || f.has(s)
+    })
+}
+
+// Silent, or not g.
+fn misses(chained: &Chained, g: &StageSet) -> StageSet
+    ensures { Says (stage_count chained.now) result
+        (λ s. non (open? (timed chained.now) s and has g.now s)) }
+{
+    StageSet::of(chained.lists.stages.len(), |s| {
+        !is_open(chained, s) || !g.has(s)
+    })
+}
+
+// Open, not f, not g.
+fn breaks(chained: &Chained, f: &StageSet, g: &StageSet) -> StageSet
+    ensures { Says (stage_count chained.now) result
+        (λ s. open? (timed chained.now) s and (non (has f.now s) and non (has g.now s))) }
+{
+    StageSet::of(chained.lists.stages.len(), |s| {
+        is_open(chained, s) && !f.has(s) && !g.has(s)
+    })
+}
+
+// Where E[f U<=c g] holds.
+pub(crate) fn some_most(
+    chained: &Chained,
+    f: &StageSet,
+    c: u32,
+    g: &StageSet,
+    tables: &mut Tables,
+) -> StageSet
+    requires small { c ≤ largest_number }
+    requires room { HaveRoom (stage_count chained.now) tables.old }
+    requires blank { AreBlank (stage_count chained.now) tables.old }
+    ensures is { UntilSet some_list chained.now f.now (most c) g.now result }
+    ensures spent { AreSpent (stage_count chained.now) tables.old tables.new }
+    ensures slices { SameSlices tables.old tables.new }
+{
+    let n = chained.lists.stages.len();
+    let pass = passes(chained, f);
+    let soon = tell(chained, &pass, g, c, tables.shortest);
+    StageSet::of(n, |s| is_open(chained, s) && soon.has(s))
+}
+
+// Where E[f U>=c g] holds.
+pub(crate) fn some_least(
+    chained: &Chained,
+    f: &StageSet,
+    c: u32,
+    g: &StageSet,
+    tables: &mut Tables,
+) -> StageSet
+    requires small { c ≤ largest_number }
+    requires room { HaveRoom (stage_count chained.now) tables.old }
+    requires blank { AreBlank (stage_count chained.now) tables.old }
+    ensures is { UntilSet some_list chained.now f.now (least c) g.now result }
+    ensures spent { AreSpent (stage_count chained.now) tables.old tables.new }
+    ensures slices { SameSlices tables.old tables.new }
+{
+    let n = chained.lists.stages.len();
+    let pass = passes(chained, f);
+    let led = reached(chained, &pass, g, tables.reached);
+    let ever = StageSet::of(n, |s| pass.has(s) && led.has(s)).endless(chained);
+    let rest = pass.without(n, &ever);
+    let long = tell(chained, &rest, g, c, tables.longest);
+    StageSet::of(n, |s| {
+        is_open(chained, s) && (ever.has(s) || long.has(s))
+    })
+}
+
+// Where A[f U<=c g] holds.
+pub(crate) fn each_most(
+    chained: &Chained,
+    f: &StageSet,
+    c: u32,
+    g: &StageSet,
+    tables: &mut Tables,
+) -> StageSet
+    requires small { c ≤ largest_number }
+    requires room { HaveRoom (stage_count chained.now) tables.old }
+    requires blank { AreBlank (stage_count chained.now) tables.old }
+    ensures is { UntilSet each_list chained.now f.now (most c) g.now result }
+    ensures spent { AreSpent (stage_count chained.now) tables.old tables.new }
+    ensures slices { SameSlices tables.old tables.new }
+{
+    let n = chained.lists.stages.len();
+    let missed = misses(chained, g);
+    let bad = breaks(chained, f, g);
+    let fails = reached(chained, &missed, &bad, tables.reached);
+    let ever = missed.endless(chained);
+    let rest = missed.without(n, &ever);
+    let all = StageSet::of(n, |_s| true);
+    let long = tell(chained, &rest, &all, c + 1, tables.longest);
+    StageSet::of(n, |s| {
+        is_open(chained, s) && !(fails.has(s) || ever.has(s) || long.has(s))
+    })
+}
+
+// Where A[f U>=c g] holds.
+pub(crate) fn each_least(
+    chained: &Chained,
+    f: &StageSet,
+    c: u32,
+    g: &StageSet,
+    tables: &mut Tables,
+) -> StageSet
+    requires small { c ≤ largest_number }
+    requires room { HaveRoom (stage_count chained.now) tables.old }
+    requires blank { AreBlank (stage_count chained.now) tables.old }
+    ensures is { UntilSet each_list chained.now f.now (least c) g.now result }
+    ensures spent { AreSpent (stage_count chained.now) tables.old tables.new }
+    ensures slices { SameSlices tables.old tables.new }
+{
+    let n = chained.lists.stages.len();
+    let missed = misses(chained, g);
+    let bad = breaks(chained, f, g);
+    let fails = reached(chained, &missed, &bad, tables.reached);
+    let ever = missed.endless(chained);
+    let doomed = StageSet::of(n, |s| fails.has(s) || ever.has(s));
+    let pass = passes(chained, f);
+    let before = doomed.before(chained);
+    let goals = StageSet::of(n, |s| {
+        is_open(chained, s) && !f.has(s) || pass.has(s) && before.has(s)
+    });
+    let soon = tell(chained, &pass, &goals, c.saturating_sub(1), tables.shortest);
+    StageSet::of(n, |s| {
+        is_open(chained, s) && !(doomed.has(s) || c > 0 && soon.has(s))
+    })
+}

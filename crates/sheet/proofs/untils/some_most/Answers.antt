@@ -1,0 +1,16 @@
+use Rattle.std.proofs.Common.{rules, arith}
+use Rattle.sheet.specs.Sets.{has}
+use Rattle.sheet.proofs.Cases.{some_most_set}
+use Rattle.sheet.proofs.Settled.{short_settled}
+use Rattle.sheet.proofs.untils.some_most.Goals as goal
+
+pub tell-soon-requires-clause-settles : goal.tell-soon-requires-clause-settles
+tell-soon-requires-clause-settles c = short_settled c.args.chained.now _ _
+
+pub returns-clause-is : goal.returns-clause-is
+returns-clause-is c =
+    some_most_set c.args.chained.now c.args.f.now c.args.g.now c.args.c (omega arith) (has c.passes-pass.result)
+    (has c.tell-soon.result) (has c.of.result)
+    c.passes-pass.ensures
+    c.tell-soon.ensures.is
+    (λ s h. let e = c.of.ensures s h in search rules)
