@@ -90,15 +90,15 @@ module _ (S : List Stage) (moves : List Move) (f g : ℕ → Bool) where
 
   abbrev EachLeast : ℕ → Type 0
   EachLeast n =
-      (c : ℕ) → c - 1 < most_sum → (missed bad fails ever doomed pass before goals soon out : ℕ → Bool)
+      (c : ℕ) → c - 1 < most_sum → (missed bad fails ever doomed pass sources goals soon out : ℕ → Bool)
       → Misses n missed
       → Breaks n bad
       → Reaches n missed bad fails
       → Endless n missed ever
       → Agree n doomed (λ s. fails s or ever s)
       → Passes n pass
-      → Agree n before (into any_move p.moves (table n doomed))
-      → Agree n goals (λ s. (open? p s and non (f s)) or (pass s and before s))
+      → Agree n sources (into any_move p.moves (table n doomed))
+      → Agree n goals (λ s. (open? p s and non (f s)) or (pass s and sources s))
       → Agree n soon (λ s. short_to (c - 1) (tallied shortest_algebra moves pass goals n s))
       → Agree n out (λ s. open? p s and non (doomed s or (leb 1 c and soon s)))
       → table n out ≡ each_list p (table n f) (least c) (table n g)
@@ -225,7 +225,7 @@ module _ (S : List Stage) (moves : List Move) (f g : ℕ → Bool) where
         (long_at rest all long M All me ae (suc c) b et s h))
 
     each_least : EachLeast n
-    each_least c b missed bad fails ever doomed pass before goals soon out en eb er ex ev e ei eg et eo =
+    each_least c b missed bad fails ever doomed pass sources goals soon out en eb er ex ev e ei eg et eo =
         let ne = n_list missed en in
         let be = b_list bad eb in
         let ep = pass_list pass e in
@@ -241,8 +241,8 @@ module _ (S : List Stage) (moves : List Move) (f g : ℕ → Bool) where
         let he : table n goals ≡ H =
         table_same goals (λ s. (open? p s and non (at F s)) or (at Pass s and into any_move p.moves V s)) n
         (λ s h.
-        eg s h ∙ ap (λ y. (open? p s and non y) or (pass s and before s)) (in_list f F refl s h)
-        ∙ ap (λ y. (open? p s and non (at F s)) or (y and before s)) (in_list pass Pass ep s h)
+        eg s h ∙ ap (λ y. (open? p s and non y) or (pass s and sources s)) (in_list f F refl s h)
+        ∙ ap (λ y. (open? p s and non (at F s)) or (y and sources s)) (in_list pass Pass ep s h)
         ∙ ap (λ y. (open? p s and non (at F s)) or (at Pass s and y))
         (ei s h ∙ ap (λ (y : List Bool). into any_move p.moves y s) ve)) in
         table_same out

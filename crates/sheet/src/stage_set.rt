@@ -55,7 +55,7 @@ impl StageSet {
     }
 
     // Adds the stage that a move leaves, if it enters another set.
-    fn add_before(&mut self, m: Move, set: &StageSet)
+    fn add_source(&mut self, m: Move, set: &StageSet)
         requires { (m.leaves < most_stages) × (m.enters < most_stages) }
         ensures { (s : ℕ) → has self.new s
             ≡ (has self.old s or (m.leaves == s and has set.now m.enters)) }
@@ -66,17 +66,17 @@ impl StageSet {
     }
 
     // The stages with a move into the set.
-    pub fn before(&self, chained: &Chained) -> StageSet
+    pub fn sources(&self, chained: &Chained) -> StageSet
         ensures { Says (stage_count chained.now) result
             (into any_move (timed chained.now).moves (listed (stage_count chained.now) self.now)) }
     {
-        let mut before = StageSet {
+        let mut sources = StageSet {
             words: [0; MOST_STAGES],
         };
         for m in chained.lists.moves {
-            before.add_before(*m, self);
+            sources.add_source(*m, self);
         }
-        before
+        sources
     }
 }
 

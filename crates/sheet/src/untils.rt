@@ -154,9 +154,9 @@ pub(crate) fn each_least(
     let ever = missed.endless(chained);
     let doomed = StageSet::of(n, |s| fails.has(s) || ever.has(s));
     let pass = passes(chained, f);
-    let before = doomed.before(chained);
+    let sources = doomed.sources(chained);
     let goals = StageSet::of(n, |s| {
-        is_open(chained, s) && !f.has(s) || pass.has(s) && before.has(s)
+        is_open(chained, s) && !f.has(s) || pass.has(s) && sources.has(s)
     });
     let soon = tell(chained, &pass, &goals, c.saturating_sub(1), tables.shortest);
     StageSet::of(n, |s| {

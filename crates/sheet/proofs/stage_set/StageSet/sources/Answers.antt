@@ -6,7 +6,7 @@ use Rattle.program.specs.Graphs.{timed_move}
 use Rattle.tctl.specs.Checker.{any_move, into, ◌or◌, ◌and◌}
 use Rattle.sheet.specs.Sets.{has, listed, stage_count}
 use Rattle.sheet.proofs.Sets.{into_step, or_none, row_at}
-use Rattle.sheet.proofs.stage_set.StageSet.before.Goals as goal
+use Rattle.sheet.proofs.stage_set.StageSet.sources.Goals as goal
 
 pub loop-m-init : goal.loop-m-init
 loop-m-init c =
@@ -24,11 +24,11 @@ loop-m-preserved c =
     let m : Move = get_or moves i no_move in
     let ends = chained.linked.leaves.within i c.loop-m-test.true in
     let set = listed n c.args.self.now in
-    let was = c.loop-m.before in
-    let next = c.add_before.new.self in
+    let was = c.loop-m.sources in
+    let next = c.add_source.new.self in
     λ s h.
     into_step set (timed_move m) (map timed_move (drop (i + 1) moves)) s (has was s) (has next s)
-    (c.add_before.ensures s
+    (c.add_source.ensures s
     ∙ ap (λ b. has was s or (eqb m.leaves s and b)) (sym (row_at n c.args.self.now.words m.enters ends.1)))
     ∙ ap (λ b. has was s or b)
     (sym (at_drop_more (λ (ms : List Move). into any_move (map timed_move ms) set s) moves i no_move
@@ -39,7 +39,7 @@ pub returns : goal.returns
 returns c =
     let chained = c.args.chained.now in
     let set = listed (stage_count chained) c.args.self.now in
-    let found = c.loop-m.before in
+    let found = c.loop-m.sources in
     λ s h.
     sym (or_none (has found s))
     ∙ ap (λ b. has found s or b)
