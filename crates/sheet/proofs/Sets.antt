@@ -15,7 +15,8 @@ use Rattle.tctl.specs.Runs.{Sound}
 use Rattle.tctl.specs.Checker.{table, tab_from, at, into, any_move, ◌and◌, ◌or◌}
 use Rattle.tctl.proofs.Basics.{table_at}
 
-use Rattle.sheet.specs.Told.{Spent, Blank}
+use Rattle.sheet.specs.declared.tables.Tables.{Tables}
+use Rattle.sheet.specs.Tables.{AreSpent, SameSlices}
 
 tab_same : {A : Type 0} (f h : ℕ → A) (n i : ℕ) → ((s : ℕ) → i ≤ s → s < i + n → f s ≡ h s) → tab_from f n i
     ≡ tab_from h n i
@@ -57,9 +58,40 @@ pub row_stages : (stages : List Stage) (ws : List ℕ) (f : ℕ → Bool)
     → row (length stages) ws ≡ table (length (map timed_stage stages)) f
 row_stages stages ws f e = table_same (among ws) f (length stages) e ∙ table_stages f stages
 
--- a table that is not used
-pub unspent : {A : Type 0} (none : A) (n : ℕ) (xs : List A) → Blank none n xs → Spent none n xs xs
-unspent none n xs blank = record { cleared = blank; rest = λ i h. refl }
+-- tables that are used once more
+pub spent_more : (n : ℕ) (was mid after : Tables) → AreSpent n was mid → AreSpent n mid after → AreSpent n was after
+spent_more n was mid after one two =
+    record {
+      reached = record {
+        cleared = two.reached.cleared;
+        rest = λ i h. two.reached.rest i h ∙ one.reached.rest i h;
+      };
+      shortest = record {
+        cleared = two.shortest.cleared;
+        rest = λ i h. two.shortest.rest i h ∙ one.shortest.rest i h;
+      };
+      longest = record {
+        cleared = two.longest.cleared;
+        rest = λ i h. two.longest.rest i h ∙ one.longest.rest i h;
+      };
+    }
+
+pub same_more : (was mid after : Tables) → SameSlices was mid → SameSlices mid after → SameSlices was after
+same_more was mid after one two =
+    record {
+      reached = record {
+        name = two.reached.name ∙ one.reached.name;
+        len = two.reached.len ∙ one.reached.len;
+      };
+      shortest = record {
+        name = two.shortest.name ∙ one.shortest.name;
+        len = two.shortest.len ∙ one.shortest.len;
+      };
+      longest = record {
+        name = two.longest.name ∙ one.longest.name;
+        len = two.longest.len ∙ one.longest.len;
+      };
+    }
 
 -- a stage of the graph
 pub timed_stage_at : (stages : List Stage) (s : ℕ) → s < length stages

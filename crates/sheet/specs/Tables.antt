@@ -1,5 +1,6 @@
 -- The three tables before and after their use.
-use Rattle.std.specs.Prelude.{◌≡◌, ℕ, ◌*◌, ◌≤◌, length}
+use Rattle.std.specs.Prelude.{◌≡◌, ℕ, ◌*◌, ◌≤◌, List, length}
+use Rattle.std.specs.Borrow.{MutBor}
 use Rattle.tally.specs.Algebras.{reach_algebra, shortest_algebra, longest_algebra}
 use Rattle.sheet.specs.declared.tables.Tables.{Tables}
 use Rattle.sheet.specs.Told.{Spent, Blank}
@@ -22,8 +23,12 @@ pub record AreSpent (n : ℕ) (was after : Tables) : Type 0 where
   pub shortest : Spent shortest_algebra.none n was.shortest.now after.shortest.now
   pub longest : Spent longest_algebra.none n was.longest.now after.longest.now
 
--- The tables stand in the same slices.
+-- A table stands in the same slice.
+pub record SameSlice {A : Type 0} (was after : MutBor (List A)) : Type 0 where
+  pub name : after.ghost_name ≡ was.ghost_name
+  pub len : length after.now ≡ length was.now
+
 pub record SameSlices (was after : Tables) : Type 0 where
-  pub reached : after.reached.ghost_name ≡ was.reached.ghost_name
-  pub shortest : after.shortest.ghost_name ≡ was.shortest.ghost_name
-  pub longest : after.longest.ghost_name ≡ was.longest.ghost_name
+  pub reached : SameSlice was.reached after.reached
+  pub shortest : SameSlice was.shortest after.shortest
+  pub longest : SameSlice was.longest after.longest

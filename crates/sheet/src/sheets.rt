@@ -1,1 +1,161 @@
-// The sheet.
+// The sheet, a column a line: word s has bit k exactly for the lines k that hold at stage s.
+ghost use Rattle.std.specs.Prelude.{◌≡◌, ◌+◌, ◌^◌, ◌<◌, ◌≤◌, length, if◌then◌else◌};
+ghost use Rattle.program.specs.Meaning.{prog, most_stages};
+ghost use Rattle.rules.specs.Lines.{most_lines, largest_number, bound_number, Formed, WellFormed};
+ghost use Rattle.settle.specs.Rows.{RestKept};
+ghost use Rattle.tctl.specs.Runs.{Sound};
+ghost use Rattle.tctl.specs.Holds.{marked};
+ghost use Rattle.tctl.specs.Checker.{at};
+ghost use Rattle.sheet.specs.Sets.{has, listed, stage_count, timed};
+ghost use Rattle.sheet.specs.Tables.{HaveRoom, AreBlank, AreSpent, SameSlices};
+ghost use Rattle.sheet.specs.Sheets.{bit, column, until_list, line_list, Added, Below, Names};
+
+use crate::stage_set::{StageSet, is_open};
+use crate::tables::Tables;
+use crate::untils::{each_least, each_most, some_least, some_most};
+use rules::line::{Bound, Line, Quantifier};
+use settle::links::Chained;
+
+fn bit_of(word: u32, k: usize) -> bool
+    requires { k < most_lines }
+    ensures { result ≡ bit k word }
+{
+    (word >> k) % 2 == 1
+}
+
+// The word with value 2^k set, if the line holds.
+fn with_line(word: u32, k: usize, holds: bool) -> u32
+    requires { (k < most_lines) × (word < 2 ^ k) }
+    ensures { result ≡ word + (if holds then 2 ^ k else 0) }
+{
+    if holds { word | (1 << k) } else { word }
+}
+
+// The stages at which a line of the sheet holds.
+fn read_column(n: usize, k: usize, sheet: &[u32]) -> StageSet
+    requires number { k < most_lines }
+    requires few { n ≤ most_stages }
+    requires sheet { n ≤ length sheet.now }
+    ensures { listed n result ≡ column n sheet.now k }
+{
+    StageSet::of(n, |s| bit_of(sheet[s], k))
+}
+
+fn write_column(n: usize, k: usize, holds: &StageSet, sheet: &mut [u32])
+    requires number { k < most_lines }
+    requires few { n ≤ most_stages }
+    requires sheet { n ≤ length sheet.old }
+    requires below { Below n k sheet.old }
+    ensures written { Added n k (has holds.now) sheet.old sheet.new }
+    ensures above { RestKept n sheet.old sheet.new }
+{
+    for (s, word) in sheet[..n].iter_mut().enumerate() {
+        *word = with_line(*word, k, holds.has(s));
+    }
+}
+
+// Whether a stage bears a mark, open or not.
+fn has_mark(chained: &Chained, s: usize, letter: u8) -> bool
+    requires { (s < stage_count chained.now) × (letter < 16) }
+    ensures { result ≡ marked (timed chained.now) s letter }
+{
+    (chained.lists.stages[s].marks >> letter) % 2 == 1
+}
+
+// Where an until holds, from where its parts do.
+fn until_set(
+    chained: &Chained,
+    quantifier: Quantifier,
+    f: &StageSet,
+    bound: Bound,
+    g: &StageSet,
+    tables: &mut Tables,
+) -> StageSet
+    requires small { bound_number bound ≤ largest_number }
+    requires room { HaveRoom (stage_count chained.now) tables.old }
+    requires blank { AreBlank (stage_count chained.now) tables.old }
+    ensures is { listed (stage_count chained.now) result
+        ≡ until_list (timed chained.now) quantifier bound (listed (stage_count chained.now) f.now)
+        (listed (stage_count chained.now) g.now) }
+    ensures spent { AreSpent (stage_count chained.now) tables.old tables.new }
+    ensures slices { SameSlices tables.old tables.new }
+{
+    match (quantifier, bound) {
+        (Quantifier::Some, Bound::AtMost(c)) => some_most(chained, f, c, g, tables),
+        (Quantifier::Some, Bound::AtLeast(c)) => some_least(chained, f, c, g, tables),
+        (Quantifier::All, Bound::AtMost(c)) => each_most(chained, f, c, g, tables),
+        (Quantifier::All, Bound::AtLeast(c)) => each_least(chained, f, c, g, tables),
+    }
+}
+
+// Where a line holds, from the columns of the lines before it.
+fn line_set(chained: &Chained, line: Line, sheet: &[u32], tables: &mut Tables) -> StageSet
+    requires formed { Formed most_lines line }
+    requires sheet { stage_count chained.now ≤ length sheet.now }
+    requires room { HaveRoom (stage_count chained.now) tables.old }
+    requires blank { AreBlank (stage_count chained.now) tables.old }
+    ensures is { listed (stage_count chained.now) result
+        ≡ line_list (timed chained.now) (column (stage_count chained.now) sheet.now) line }
+    ensures spent { AreSpent (stage_count chained.now) tables.old tables.new }
+    ensures slices { SameSlices tables.old tables.new }
+{
+    let n = chained.lists.stages.len();
+    match line {
+        Line::One => StageSet::of(n, |s| is_open(chained, s)),
+        Line::Letter(letter) => StageSet::of(n, |s| {
+            is_open(chained, s) && has_mark(chained, s, letter)
+        }),
+        Line::Not(i) => StageSet::of(n, |s| is_open(chained, s) && !bit_of(sheet[s], i)),
+        Line::And(i, j) => StageSet::of(n, |s| bit_of(sheet[s], i) && bit_of(sheet[s], j)),
+        Line::Or(i, j) => StageSet::of(n, |s| bit_of(sheet[s], i) || bit_of(sheet[s], j)),
+        Line::Until {
+            quantifier,
+            left,
+            bound,
+            right,
+        } => {
+            let f = read_column(n, left, sheet);
+            let g = read_column(n, right, sheet);
+            until_set(chained, quantifier, &f, bound, &g, tables)
+        }
+    }
+}
+
+// The line numbered k, and its column.
+fn add_line(chained: &Chained, k: usize, line: Line, sheet: &mut [u32], tables: &mut Tables)
+    requires number { k < most_lines }
+    requires formed { Formed most_lines line }
+    requires sheet { stage_count chained.now ≤ length sheet.old }
+    requires below { Below (stage_count chained.now) k sheet.old }
+    requires room { HaveRoom (stage_count chained.now) tables.old }
+    requires blank { AreBlank (stage_count chained.now) tables.old }
+    ensures added { Added (stage_count chained.now) k
+        (at (line_list (timed chained.now) (column (stage_count chained.now) sheet.old) line))
+        sheet.old sheet.new }
+    ensures above { RestKept (stage_count chained.now) sheet.old sheet.new }
+    ensures spent { AreSpent (stage_count chained.now) tables.old tables.new }
+    ensures slices { SameSlices tables.old tables.new }
+{
+    let holds = line_set(chained, line, sheet, tables);
+    write_column(chained.lists.stages.len(), k, &holds, sheet);
+}
+
+// Names for each line the stages at which it holds.
+pub fn check_lines(chained: &Chained, lines: &[Line], sheet: &mut [u32], tables: &mut Tables)
+    requires sound { Sound (timed chained.now) }
+    requires lines { length lines.now ≤ most_lines }
+    requires formed { WellFormed lines.now }
+    requires sheet { stage_count chained.now ≤ length sheet.old }
+    requires room { HaveRoom (stage_count chained.now) tables.old }
+    ensures names { Names (prog chained.now.lists.stages.now chained.now.lists.moves.now) lines.now
+        sheet.old sheet.new }
+    ensures spent { AreSpent (stage_count chained.now) tables.old tables.new }
+    ensures slices { SameSlices tables.old tables.new }
+{
+    let n = chained.lists.stages.len();
+    sheet[..n].fill(0);
+    tables.clear(n);
+    for (k, line) in lines.iter().enumerate() {
+        add_line(chained, k, *line, sheet, tables);
+    }
+}
