@@ -4,8 +4,13 @@ use Rattle.std.proofs.Common.{get_or, sym, ap, ◌∙◌, subst, add-zero, one-m
 use native.Mathlib.Nat.{add-mul-div_right, add-mul-mod_self_right, div-eq_of_lt}
 use Rattle.std.proofs.lemmas.Nat.{pow_pos, pow-add}
 use Rattle.tctl.specs.Checker.{table, at}
+use Rattle.tctl.proofs.Basics.{table_at}
 use Rattle.sheet.specs.Sheets.{bit, column}
 use Rattle.sheet.proofs.Sets.{table_same}
+
+-- a bit, in a column
+pub column_at : (n : ℕ) (sheet : List ℕ) (k s : ℕ) → s < n → bit k (get_or sheet s 0) ≡ at (column n sheet k) s
+column_at n sheet k s h = sym (table_at (λ x. bit k (get_or sheet x 0)) false n s h)
 
 half : (x m : ℕ) → (x + 2 ^ (m + 1)) % 2 ≡ x % 2
 half x m = ap (λ y. (x + y) % 2) (pow-add 2 m 1) ∙ add-mul-mod_self_right x (2 ^ m) 2

@@ -1,22 +1,21 @@
 -- What the tallies of the code tell is what the theory's tallies tell.
-use Rattle.std.proofs.Common.{◌≡◌, ℕ, zero, suc, ◌<◌, ◌≤◌, min, Bool, true, false, cond, eqb, List, [], ◌∷◌, map}
-use Rattle.std.proofs.Common.{length, get_or, Some, sym, refl, ap, ◌∙◌, ⊎_elim, arith}
+use Rattle.std.proofs.Common.{◌≡◌, ℕ, zero, suc, ◌<◌, ◌≤◌, min, Bool, true, false, Some, None, cond, eqb, List, [], ◌∷◌, map}
+use Rattle.std.proofs.Common.{length, get_or, sym, refl, ap, ◌∙◌, ⊎_elim, arith}
 use Rattle.std.proofs.lemmas.Bool.{cases_lt, le-leb, lt-leb}
 use Rattle.program.specs.declared.Move.{Move}
 use Rattle.program.specs.Graphs.{timed_move}
 use Rattle.tally.specs.declared.Reach.{Reach}
 use Rattle.tally.specs.declared.Minutes.{Minutes}
 use Rattle.tally.specs.Algebras.{Algebra, Laws, most_sum, reach_algebra, shortest_algebra, longest_algebra}
-use Rattle.tally.specs.Walks.{among, tallied}
+use Rattle.tally.specs.Walks.{tallied}
 use Rattle.tally.specs.Rounds.{Within, over, begins, rounds}
 use Rattle.tally.proofs.Rounds.{within_tail, rounds_tally}
 use Rattle.tctl.specs.Graph.{Graph, Stage, size}
 use Rattle.tctl.specs.Checker as th
-use Rattle.tctl.specs.Checker.{Entry, none, sum, shortest, longest, at, some?, most?, least?}
+use Rattle.tctl.specs.Checker.{Entry, none, sum, shortest, longest, table, at, some?, most?, least?}
 use Rattle.tctl.proofs.Basics.{table_at}
-use Rattle.sheet.specs.Rows.{row}
+
 use Rattle.sheet.specs.Told.{reaches, short_to, long_from}
-use Rattle.sheet.proofs.Sets.{row_at}
 
 -- h carries the theory's tally k over to the tally K.
 pub record Hom {A : Type 0} (k : th.Kind) (K : Algebra A) (h : Entry → A) : Type 0 where
@@ -26,7 +25,7 @@ pub record Hom {A : Type 0} (k : th.Kind) (K : Algebra A) (h : Entry → A) : Ty
   pub to_before : (d : ℕ) (u : Entry) → h (th.after d u) ≡ K.before d (h u)
 
 module _ {A : Type 0} (k : th.Kind) (K : Algebra A) (h : Entry → A) (hom : Hom k K h) (S : List Stage)
-    (moves : List Move) (within : Within (length S) moves) (pass goals : List ℕ) where
+    (moves : List Move) (within : Within (length S) moves) (pass goals : ℕ → Bool) where
   -- the graph of the moves
   abbrev p : Graph
   p = record { stages = S; moves = map timed_move moves }
@@ -52,26 +51,26 @@ module _ {A : Type 0} (k : th.Kind) (K : Algebra A) (h : Entry → A) (hom : Hom
           (th.over k (map timed_move ms) was s))
       go false one ih = ih
 
-  begins_hom : (s : ℕ) → s < size p → begins K (among goals) s ≡ h (th.begin (row (size p) goals) s)
-  begins_hom s l = go (among goals s) ∙ ap (λ b. h (cond b (sum 0) none)) (sym (row_at (size p) goals s l))
+  begins_hom : (s : ℕ) → s < size p → begins K goals s ≡ h (th.begin (table (size p) goals) s)
+  begins_hom s l = go (goals s) ∙ ap (λ b. h (cond b (sum 0) none)) (sym (table_at goals false (size p) s l))
     where
       go : (b : Bool) → cond b K.start K.none ≡ h (cond b (sum 0) none)
       go true = sym hom.to_start
       go false = sym hom.to_none
 
-  pub rounds_hom : (i s : ℕ) → s < size p → rounds K moves (among pass) (among goals) i s
-      ≡ h (get_or (th.tally p k (row (size p) pass) (row (size p) goals) i) s none)
-  rounds_hom zero s l = begins_hom s l ∙ ap h (sym (table_at (th.begin (row (size p) goals)) none (size p) s l))
+  pub rounds_hom : (i s : ℕ) → s < size p → rounds K moves pass goals i s
+      ≡ h (get_or (th.tally p k (table (size p) pass) (table (size p) goals) i) s none)
+  rounds_hom zero s l = begins_hom s l ∙ ap h (sym (table_at (th.begin (table (size p) goals)) none (size p) s l))
   rounds_hom (suc i) s l =
-      let was = th.tally p k (row (size p) pass) (row (size p) goals) i in
-      let P = row (size p) pass in
-      let G = row (size p) goals in
-      let rest : cond (among pass s) (over K (rounds K moves (among pass) (among goals) i) moves s) K.none
+      let was = th.tally p k (table (size p) pass) (table (size p) goals) i in
+      let P = table (size p) pass in
+      let G = table (size p) goals in
+      let rest : cond (pass s) (over K (rounds K moves pass goals i) moves s) K.none
       ≡ h (cond (at P s) (th.over k p.moves was s) none) =
-      go (among pass s) _ (th.over k p.moves was s) (over_hom was (rounds K moves (among pass) (among goals) i)
+      go (pass s) _ (th.over k p.moves was s) (over_hom was (rounds K moves pass goals i)
       (rounds_hom i) moves within s)
-      ∙ ap (λ b. h (cond b (th.over k p.moves was s) none)) (sym (row_at (size p) pass s l)) in
-      ap (λ x. K.choice x (cond (among pass s) (over K (rounds K moves (among pass) (among goals) i) moves s)
+      ∙ ap (λ b. h (cond b (th.over k p.moves was s) none)) (sym (table_at pass false (size p) s l)) in
+      ap (λ x. K.choice x (cond (pass s) (over K (rounds K moves pass goals i) moves s)
       K.none)) (begins_hom s l)
       ∙ ap (K.choice (h (th.begin G s))) rest
       ∙ sym (hom.to_choice (th.begin G s) (cond (at P s) (th.over k p.moves was s) none))
@@ -85,19 +84,19 @@ module _ {A : Type 0} (k : th.Kind) (K : Algebra A) (h : Entry → A) (hom : Hom
 -- The three tallies
 
 abbrev to_reach : Entry → Reach
-to_reach none = reach_algebra.none
-to_reach (sum a) = reach_algebra.start
+to_reach none = record { 0 = false }
+to_reach (sum a) = record { 0 = true }
 
 -- There is a walk of so many minutes.
 abbrev lasting : {n : ℕ} → ℕ → Minutes n
 lasting d = record { 0 = Some d }
 
 abbrev to_short : Entry → Minutes 0
-to_short none = shortest_algebra.none
+to_short none = record { 0 = None }
 to_short (sum a) = lasting (min most_sum a)
 
 abbrev to_long : Entry → Minutes 1
-to_long none = longest_algebra.none
+to_long none = record { 0 = None }
 to_long (sum a) = lasting (min most_sum a)
 
 reach_choice : (u v : Entry) → to_reach (th.choice shortest u v) ≡ reach_algebra.choice (to_reach u) (to_reach v)
@@ -154,28 +153,28 @@ long_told c l (sum a) =
     (λ m. le-leb c (min most_sum a) (omega arith) ∙ sym (le-leb c a m))
     (cases_lt a c)
 
-module _ (S : List Stage) (moves : List Move) (within : Within (length S) moves) (pass goals : List ℕ) (c i s : ℕ)
+module _ (S : List Stage) (moves : List Move) (within : Within (length S) moves) (pass goals : ℕ → Bool) (c i s : ℕ)
     (l : s < length S) where
   abbrev q : Graph
   q = record { stages = S; moves = map timed_move moves }
 
-  pub told_reach : Laws reach_algebra → reaches c (tallied reach_algebra moves (among pass) (among goals) i s)
-      ≡ some? (get_or (th.tally q shortest (row (length S) pass) (row (length S) goals) i) s none)
+  pub told_reach : Laws reach_algebra → reaches c (tallied reach_algebra moves pass goals i s)
+      ≡ some? (get_or (th.tally q shortest (table (length S) pass) (table (length S) goals) i) s none)
   told_reach laws =
-      ap (reaches c) (rounds_tally reach_algebra laws moves (among pass) (among goals) i s
+      ap (reaches c) (rounds_tally reach_algebra laws moves pass goals i s
       ∙ rounds_hom shortest reach_algebra to_reach reach_hom S moves within pass goals i s l)
-      ∙ reach_told c (get_or (th.tally q shortest (row (length S) pass) (row (length S) goals) i) s none)
+      ∙ reach_told c (get_or (th.tally q shortest (table (length S) pass) (table (length S) goals) i) s none)
 
-  pub told_short : Laws shortest_algebra → c < most_sum → short_to c (tallied shortest_algebra moves (among pass)
-      (among goals) i s) ≡ most? c (get_or (th.tally q shortest (row (length S) pass) (row (length S) goals) i) s none)
+  pub told_short : Laws shortest_algebra → c < most_sum → short_to c (tallied shortest_algebra moves pass
+      goals i s) ≡ most? c (get_or (th.tally q shortest (table (length S) pass) (table (length S) goals) i) s none)
   told_short laws b =
-      ap (short_to c) (rounds_tally shortest_algebra laws moves (among pass) (among goals) i s
+      ap (short_to c) (rounds_tally shortest_algebra laws moves pass goals i s
       ∙ rounds_hom shortest shortest_algebra to_short short_hom S moves within pass goals i s l)
-      ∙ short_told c b (get_or (th.tally q shortest (row (length S) pass) (row (length S) goals) i) s none)
+      ∙ short_told c b (get_or (th.tally q shortest (table (length S) pass) (table (length S) goals) i) s none)
 
-  pub told_long : Laws longest_algebra → c ≤ most_sum → long_from c (tallied longest_algebra moves (among pass)
-      (among goals) i s) ≡ least? c (get_or (th.tally q longest (row (length S) pass) (row (length S) goals) i) s none)
+  pub told_long : Laws longest_algebra → c ≤ most_sum → long_from c (tallied longest_algebra moves pass
+      goals i s) ≡ least? c (get_or (th.tally q longest (table (length S) pass) (table (length S) goals) i) s none)
   told_long laws b =
-      ap (long_from c) (rounds_tally longest_algebra laws moves (among pass) (among goals) i s
+      ap (long_from c) (rounds_tally longest_algebra laws moves pass goals i s
       ∙ rounds_hom longest longest_algebra to_long long_hom S moves within pass goals i s l)
-      ∙ long_told c b (get_or (th.tally q longest (row (length S) pass) (row (length S) goals) i) s none)
+      ∙ long_told c b (get_or (th.tally q longest (table (length S) pass) (table (length S) goals) i) s none)

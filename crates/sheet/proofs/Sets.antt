@@ -7,14 +7,16 @@ use Rattle.tctl.specs.Graph.{Move, Graph}
 use Rattle.program.specs.declared.Stage.{Stage}
 use Rattle.program.specs.declared.Move as program
 use Rattle.program.specs.Meaning.{no_stage, no_move}
-use Rattle.program.specs.Graphs.{timed_stage, timed_move}
+use Rattle.program.specs.Graphs.{timed_stage, timed_move, graph_of}
+use Rattle.settle.specs.Rows.{row}
 use Rattle.tally.specs.Walks.{among}
 use Rattle.tally.specs.Rounds.{Within}
 use Rattle.tctl.specs.Runs.{Sound}
-use Rattle.tctl.specs.Checker.{table, tab_from, at, into, endless, ◌and◌, ◌or◌}
+use Rattle.tctl.specs.Checker.{table, tab_from, at, into, any_move, ◌and◌, ◌or◌}
 use Rattle.tctl.proofs.Basics.{table_at}
-use Rattle.sheet.specs.Rows.{graph_of, row, shrunk, Says}
-use Rattle.sheet.specs.Told.{Spent, Blank}
+
+use Rattle.sheet.specs.declared.tables.Tables.{Tables}
+use Rattle.sheet.specs.Tables.{AreSpent, SameSlices}
 
 tab_same : {A : Type 0} (f h : ℕ → A) (n i : ℕ) → ((s : ℕ) → i ≤ s → s < i + n → f s ≡ h s) → tab_from f n i
     ≡ tab_from h n i
@@ -31,53 +33,19 @@ or_join : (a b c : Bool) → ((a or b) or c) ≡ (a or (b or c))
 or_join true b c = refl
 or_join false b c = refl
 
-or_at : (t x y z r : Bool) → t ≡ true → y ≡ (x or z) → (y or r) ≡ (x or ((t and z) or r))
-or_at t x y z r e d = ap (λ v. v or r) d ∙ or_join x z r ∙ ap (λ v. x or ((v and z) or r)) (sym e)
-
-or_off : (t x y z r : Bool) → t ≡ false → y ≡ x → (y or r) ≡ (x or ((t and z) or r))
-or_off t x y z r e d = ap (λ v. v or r) d ∙ ap (λ v. x or ((v and z) or r)) (sym e)
-
--- One move of a loop that marks.
-pub into_step : (sort : Move → Bool) (S : List Bool) (m : Move) (ms : List Move) (s : ℕ) (x y : Bool)
-    → (m.leaves ≡ s → y ≡ (x or (sort m and at S m.enters))) → ((m.leaves ≡ s → ⊥) → y ≡ x)
-    → (y or into sort ms S s) ≡ (x or into sort (m ∷ ms) S s)
-into_step sort S m ms s x y here other =
-    ⊎_elim (λ e. or_at (eqb m.leaves s) x y (sort m and at S m.enters) (into sort ms S s)
-    (eq-eqb m.leaves s e) (here e))
-    (λ ne. or_off (eqb m.leaves s) x y (sort m and at S m.enters) (into sort ms S s) (ne_eqb m.leaves s ne)
-    (other ne))
-    (cases_eq m.leaves s)
+-- One move of a loop that adds the stages with a move into a set.
+pub into_step : (S : List Bool) (m : Move) (ms : List Move) (s : ℕ) (x y : Bool)
+    → y ≡ (x or (eqb m.leaves s and at S m.enters)) → (y or into any_move ms S s) ≡ (x or into any_move (m ∷ ms) S s)
+into_step S m ms s x y e =
+    ap (λ b. b or into any_move ms S s) e ∙ or_join x (eqb m.leaves s and at S m.enters) (into any_move ms S s)
 
 pub or_none : (a : Bool) → (a or false) ≡ a
 or_none true = refl
 or_none false = refl
 
--- Once a removal changes nothing, no later one does.
-pub endless_settled : (p : Graph) (sort : Move → Bool) (S : List Bool) (i : ℕ) → endless p sort S i
-    ≡ endless p sort S (suc i)
-    → (j : ℕ) → i ≤ j → endless p sort S i ≡ endless p sort S j
-endless_settled p sort S i e zero l = let z : i ≡ 0 = omega arith in ap (endless p sort S) z
-endless_settled p sort S i e (suc j) l =
-    ⊎_elim (λ (z : i ≡ suc j). ap (endless p sort S) z)
-    (λ d. e ∙ ap (shrunk p sort) (endless_settled p sort S i e j (omega arith)))
-    (cases_eq i (suc j))
-
 -- an entry of a row
 pub row_at : (n : ℕ) (ws : List ℕ) (s : ℕ) → s < n → at (row n ws) s ≡ among ws s
 row_at n ws s h = table_at (among ws) false n s h
-
--- One word more of a row that is written.
-pub written_more : (f : ℕ → Bool) (xs : List ℕ) (i v : ℕ) → i < length xs → ltb 0 v ≡ f i
-    → ((s : ℕ) → s < i → among xs s ≡ f s)
-    → (s : ℕ) → s < i + 1 → among (set xs i v) s ≡ f s
-written_more f xs i v l e h s m =
-    ⊎_elim (λ (z : s ≡ i). ap (λ x. among (set xs i v) x) z ∙ ap (ltb 0) (get_or-set_same xs i v 0 l) ∙ e ∙ ap f (sym z))
-    (λ ne. ap (ltb 0) (get_or-set_other xs i s v 0 ne) ∙ h s (omega arith))
-    (cases_eq s i)
-
-pub kept_more : (xs was : List ℕ) (i v : ℕ) → ((s : ℕ) → i ≤ s → get_or xs s 0 ≡ get_or was s 0) → (s : ℕ) → i + 1 ≤ s
-    → get_or (set xs i v) s 0 ≡ get_or was s 0
-kept_more xs was i v h s m = get_or-set_other xs i s v 0 (λ e. omega arith) ∙ h s (omega arith)
 
 -- A table of as many entries as there are stages is one of the graph.
 pub table_stages : (f : ℕ → Bool) (stages : List Stage) → table (length stages) f
@@ -85,13 +53,45 @@ pub table_stages : (f : ℕ → Bool) (stages : List Stage) → table (length st
 table_stages f stages = ap (λ n. table n f) (sym (length-map stages timed_stage))
 
 -- A row that says a test's answer for each stage is the test's table of the graph.
-pub row_stages : (stages : List Stage) (ws : List ℕ) (f : ℕ → Bool) → Says (length stages) ws f
+pub row_stages : (stages : List Stage) (ws : List ℕ) (f : ℕ → Bool)
+    → ((s : ℕ) → s < length stages → among ws s ≡ f s)
     → row (length stages) ws ≡ table (length (map timed_stage stages)) f
 row_stages stages ws f e = table_same (among ws) f (length stages) e ∙ table_stages f stages
 
--- a table that is not used
-pub unspent : {A : Type 0} (none : A) (n : ℕ) (xs : List A) → Blank none n xs → Spent none n xs xs
-unspent none n xs blank = record { cleared = blank; rest = λ i h. refl }
+-- tables that are used once more
+pub spent_more : (n : ℕ) (was mid after : Tables) → AreSpent n was mid → AreSpent n mid after → AreSpent n was after
+spent_more n was mid after one two =
+    record {
+      reached = record {
+        cleared = two.reached.cleared;
+        rest = λ i h. two.reached.rest i h ∙ one.reached.rest i h;
+      };
+      shortest = record {
+        cleared = two.shortest.cleared;
+        rest = λ i h. two.shortest.rest i h ∙ one.shortest.rest i h;
+      };
+      longest = record {
+        cleared = two.longest.cleared;
+        rest = λ i h. two.longest.rest i h ∙ one.longest.rest i h;
+      };
+    }
+
+pub same_more : (was mid after : Tables) → SameSlices was mid → SameSlices mid after → SameSlices was after
+same_more was mid after one two =
+    record {
+      reached = record {
+        name = two.reached.name ∙ one.reached.name;
+        len = two.reached.len ∙ one.reached.len;
+      };
+      shortest = record {
+        name = two.shortest.name ∙ one.shortest.name;
+        len = two.shortest.len ∙ one.shortest.len;
+      };
+      longest = record {
+        name = two.longest.name ∙ one.longest.name;
+        len = two.longest.len ∙ one.longest.len;
+      };
+    }
 
 -- a stage of the graph
 pub timed_stage_at : (stages : List Stage) (s : ℕ) → s < length stages

@@ -1,5 +1,5 @@
-pub mod Rows
-pub mod Ops
+pub mod Sets
 pub mod Told
+pub mod Tables
 pub mod Sheets
 pub mod Tables

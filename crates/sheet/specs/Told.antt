@@ -6,21 +6,20 @@ use Rattle.tally.specs.declared.Minutes.{Minutes}
 abbrev pub reaches : ℕ → Reach → Bool
 reaches c a = a.0
 
--- There are so many minutes, or fewer.
-abbrev pub up_to : ℕ → Option ℕ → Bool
-up_to c None = false
-up_to c (Some a) = nat_le a c
+-- Whether the longest walk has so many minutes or more, or the shortest so many or fewer.
+abbrev pub bounded : Bool → ℕ → Option ℕ → Bool
+bounded longest c None = false
+bounded true c (Some a) = nat_le c a
+bounded false c (Some a) = nat_le a c
 
--- There are so many minutes, or more.
-abbrev pub from : ℕ → Option ℕ → Bool
-from c None = false
-from c (Some a) = nat_le c a
+abbrev pub minutes_tell : {n : ℕ} → Bool → ℕ → Minutes n → Bool
+minutes_tell longest c a = bounded longest c a.0
 
 abbrev pub short_to : ℕ → Minutes 0 → Bool
-short_to c a = up_to c a.0
+short_to = minutes_tell false
 
 abbrev pub long_from : ℕ → Minutes 1 → Bool
-long_from c a = from c a.0
+long_from = minutes_tell true
 
 -- A table after its use: the first four entries a stage are none, the rest is as found.
 pub record Spent {A : Type 0} (none : A) (n : ℕ) (was after : List A) : Type 0 where

@@ -1,11 +1,10 @@
-// The sheet of a check over plain slices: word s has bit k exactly for the lines k that hold at stage s. Sets of stages
-// are rows of words, a word a stage. Rests on `program`, `rules`, the tallies, and the checker that `tctl` proves right.
+// The sheet of a check over plain slices: word s has bit k exactly for the lines k that hold at stage s.
+// Rests on `program`, `rules`, the tallies and how they are settled, and the checker that `tctl` proves right.
 
 #![tactic(auto)]
 
-pub mod parts;
+mod stage_set;
 pub mod sheets;
 pub mod tables;
 pub mod told;
-pub mod untils;
-pub mod words;
+mod untils;

@@ -1,15 +1,16 @@
 // Where a tally tells what a bound asks for.
 ghost use Rattle.std.specs.Prelude.{◌≡◌, ℕ, ◌*◌, ◌<◌, ◌≤◌, Bool, length};
-ghost use Rattle.program.specs.Meaning.{most_stages};
-ghost use Rattle.tally.specs.Walks.{among, tallied};
-ghost use Rattle.tally.specs.Rounds.{Within, entry};
-ghost use Rattle.sheet.specs.Rows.{Says, RestKept};
-ghost use Rattle.sheet.specs.Told.{reaches, short_to, long_from, Spent};
+ghost use Rattle.tally.specs.Walks.{tallied};
+ghost use Rattle.tally.specs.Rounds.{entry};
+ghost use Rattle.settle.specs.Tended.{Settles};
+ghost use Rattle.sheet.specs.Sets.{has, stage_count, Says};
+ghost use Rattle.sheet.specs.Told.{reaches, minutes_tell, Spent};
 
-use program::Move;
-use tally::rows::{clear, tallies};
-use tally::walks::Walks;
-use tally::{Longest, Reach, Shortest, Tally};
+use crate::stage_set::StageSet;
+use settle::links::Chained;
+use settle::table::tally_all;
+use tally::rows::clear;
+use tally::{Minutes, Reach, Tally};
 
 // A tally that is asked about a number of minutes.
 pub trait Told: Tally {
@@ -28,66 +29,44 @@ impl Told for Reach {
     }
 }
 
-// There is a walk of at most so many minutes.
-impl Told for Shortest {
-    ghost tells = { short_to };
+// There is a longest walk of at least so many minutes, or a shortest one of at most so many.
+impl<const LONGEST: bool> Told for Minutes<LONGEST> {
+    ghost tells = { minutes_tell LONGEST };
 
     fn told(self, minutes: u32) -> bool {
-        self.0.is_some_and(|a| a <= minutes)
+        match self.0 {
+            Some(a) if LONGEST => minutes <= a,
+            Some(a) => a <= minutes,
+            None => false,
+        }
     }
 }
 
-// There is a walk of at least so many minutes.
-impl Told for Longest {
-    ghost tells = { long_from };
-
-    fn told(self, minutes: u32) -> bool {
-        self.0.is_some_and(|a| minutes <= a)
-    }
-}
-
-// Writes where the first entries of a table tell what is asked.
-fn tell_row<T: Told>(n: usize, minutes: u32, entries: &[T], out: &mut [u32])
-    requires entries { n ≤ length entries.now }
-    requires out { n ≤ length out.old }
-    ensures is { Says n out.new (λ s. T.Told.tells minutes
-        (entry T.Tally.algebra entries.now s)) }
-    ensures above { RestKept n out.old out.new }
-{
-    for s in 0..n {
-        out[s] = if entries[s].told(minutes) { 1 } else { 0 };
-    }
-}
-
-// Writes where the walks from pass to goals tell what is asked. The table is none again after it.
+// Where the walks from pass to goals tell what is asked. The table is none again after it.
 pub(crate) fn tell<T: Told>(
-    n: usize,
-    moves: &[Move],
-    pass: &[u32],
-    goals: &[u32],
+    chained: &Chained,
+    pass: &StageSet,
+    goals: &StageSet,
     minutes: u32,
-    entries: &mut [T],
-    out: &mut [u32],
-)
-    requires few { n ≤ most_stages }
-    requires within { Within n moves.now }
-    requires pass { n ≤ length pass.now }
-    requires goals { n ≤ length goals.now }
-    requires room { 4 * n ≤ length entries.old }
-    requires out { n ≤ length out.old }
-    ensures is { Says n out.new (λ s. T.Told.tells minutes
-        (tallied T.Tally.algebra moves.now (among pass.now)
-        (among goals.now) n s)) }
-    ensures above { RestKept n out.old out.new }
-    ensures spent { Spent T.Tally.algebra.none n entries.old entries.new }
+    table: &mut [T],
+) -> StageSet
+    requires room { 4 * stage_count chained.now ≤ length table.old }
+    requires settles { Settles T.Tally.algebra (stage_count chained.now) chained.now.lists.moves.now
+        (has pass.now) (has goals.now) }
+    ensures is { Says (stage_count chained.now) result (λ s. T.Told.tells minutes
+        (tallied T.Tally.algebra chained.now.lists.moves.now (has pass.now) (has goals.now)
+        (stage_count chained.now) s)) }
+    ensures spent { Spent T.Tally.algebra.none (stage_count chained.now) table.old table.new }
 {
-    let walks = Walks {
-        stages: n,
-        moves,
-        pass,
-        goals,
-    };
-    tallies(&walks, n as u16, entries);
-    tell_row(n, minutes, entries, out);
-    clear(0, n, entries);
+    let n = chained.lists.stages.len();
+    tally_all(chained, &pass.words, &goals.words, table);
+    let entries = &*table;
+    let holds = StageSet::of(n, |s: usize| -> bool
+        requires { s < length entries.now }
+        ensures { result ≡ T.Told.tells minutes (entry T.Tally.algebra entries.entry.now s) }
+    {
+        entries[s].told(minutes)
+    });
+    clear(0, n, table);
+    holds
 }

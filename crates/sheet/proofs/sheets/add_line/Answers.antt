@@ -1,22 +1,15 @@
-use Rattle.std.proofs.Common.{◌+◌, ◌^◌, cond, length, get_or, ap, ◌∙◌}
-use Rattle.sheet.specs.Rows.{graph_of}
+use Rattle.std.proofs.Common.{◌+◌, ◌^◌, cond, get_or, ap, ◌∙◌}
+use Rattle.sheet.specs.Sets.{stage_count, timed}
 use Rattle.sheet.specs.Sheets.{column, line_list}
 use Rattle.sheet.proofs.Cases.{in_row}
 use Rattle.sheet.proofs.sheets.add_line.Goals as goal
 
-pub returns : goal.returns
-returns c =
-    let p = graph_of c.args.stages.now c.args.moves.now in
-    let n = length c.args.stages.now in
+pub returns-clause-added : goal.returns-clause-added
+returns-clause-added c =
+    let n = stage_count c.args.chained.now in
     let sheet = c.args.sheet.now in
-    record {
-      added = λ s h.
-          c.write_column.ensures.written s h
-          ∙ ap (λ b. get_or sheet s 0 + cond b (2 ^ c.args.k) 0)
-          (in_row n c.line_row.new.out (line_list p (column n sheet) c.args.line) c.line_row.ensures.is
-          s h);
-      above = c.write_column.ensures.above;
-      spent_reached = c.line_row.ensures.spent_reached;
-      spent_shortest = c.line_row.ensures.spent_shortest;
-      spent_longest = c.line_row.ensures.spent_longest;
-    }
+    λ s h.
+    c.write_column.ensures.written s h
+    ∙ ap (λ b. get_or sheet s 0 + cond b (2 ^ c.args.k) 0)
+    (in_row n c.line_set-holds.result.words (line_list (timed c.args.chained.now) (column n sheet) c.args.line)
+    c.line_set-holds.ensures.is s h)

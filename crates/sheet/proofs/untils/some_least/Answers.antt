@@ -1,29 +1,27 @@
-use Rattle.std.proofs.Common.{ap, ◌∙◌, arith}
-use Rattle.tally.specs.Walks.{among}
-use Rattle.sheet.specs.Rows.{both, either}
-use Rattle.tctl.specs.Checker.{non}
-use Rattle.sheet.proofs.Cases.{some_least_row}
+use Rattle.std.proofs.Common.{rules, arith}
+use Rattle.sheet.specs.Sets.{has}
+use Rattle.sheet.proofs.Cases.{some_least_set}
+use Rattle.sheet.proofs.Settled.{led_settled}
 use Rattle.sheet.proofs.untils.some_least.Goals as goal
 
-pub returns : goal.returns
-returns c =
-    let shown = c.open_row.new.out in
-    let pass = c.combine-2.new.out in
-    let ever = c.keep_endless.new.set in
-    record {
-      is =
-          some_least_row c.args.stages.now c.args.moves.now c.requires.within c.args.f.now
-          c.args.g.now c.args.c (omega arith) shown pass c.combine-3.new.out ever
-          c.combine-4.new.out c.combine-6.new.out
-          c.open_row.ensures.is
-          (λ s h. c.combine-2.ensures.is s h ∙ ap (either (non (among shown s))) (c.combine.ensures.is s h))
-          (λ s h. c.combine-3.ensures.is s h ∙ ap (both (among pass s)) (c.tell.ensures.is s h))
-          c.keep_endless.ensures.left
-          c.combine-4.ensures.is
-          (λ s h.
-          c.combine-6.ensures.is s h
-          ∙ ap (both (among shown s)) (c.combine-5.ensures.is s h ∙ ap (either (among ever s))
-          (c.tell-2.ensures.is s h)));
-      spent_reached = c.tell.ensures.spent;
-      spent_longest = c.tell-2.ensures.spent;
-    }
+pub tell-long-requires-clause-settles : goal.tell-long-requires-clause-settles
+tell-long-requires-clause-settles c =
+    led_settled c.args.chained.now (has c.of.result) (has c.endless-ever.result) (has c.without-rest.result)
+    (has c.args.g.now) c.endless-ever.ensures (has c.passes-pass.result)
+    c.without-rest.ensures
+    (has c.reached-led.result)
+    c.reached-led.ensures.is
+    (λ s h. let e = c.of.ensures s h in search rules)
+
+pub returns-clause-is : goal.returns-clause-is
+returns-clause-is c =
+    some_least_set c.args.chained.now c.args.f.now c.args.g.now c.args.c (omega arith) (has c.passes-pass.result)
+    (has c.reached-led.result) (has c.of.result) (has c.endless-ever.result) (has c.without-rest.result)
+    (has c.tell-long.result) (has c.of-2.result)
+    c.passes-pass.ensures
+    c.reached-led.ensures.is
+    (λ s h. let e = c.of.ensures s h in search rules)
+    c.endless-ever.ensures
+    c.without-rest.ensures
+    c.tell-long.ensures.is
+    (λ s h. let e = c.of-2.ensures s h in search rules)

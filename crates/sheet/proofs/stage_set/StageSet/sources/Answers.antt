@@ -1,0 +1,48 @@
+use Rattle.std.proofs.Common.{ℕ, ◌+◌, List, map, get_or, drop, sym, ap, ◌∙◌, arith, ltb, eqb}
+use Rattle.std.proofs.lemmas.List.{at_drop_more, at_drop_all, get_or-replicate}
+use Rattle.program.specs.declared.Move.{Move}
+use Rattle.program.specs.Meaning.{no_move, most_stages}
+use Rattle.program.specs.Graphs.{timed_move}
+use Rattle.tctl.specs.Checker.{any_move, into, ◌or◌, ◌and◌}
+use Rattle.sheet.specs.Sets.{has, listed, stage_count}
+use Rattle.sheet.proofs.Sets.{into_step, or_none, row_at}
+use Rattle.sheet.proofs.stage_set.StageSet.sources.Goals as goal
+
+pub loop-m-init : goal.loop-m-init
+loop-m-init c =
+    let chained = c.args.chained.now in
+    let set = listed (stage_count chained) c.args.self.now in
+    λ s h. ap (λ b. ltb 0 b or into any_move (map timed_move chained.lists.moves.now) set s)
+    (get_or-replicate most_stages s 0 0 (omega (arith, chained.lists.limits.few_stages)))
+
+pub loop-m-preserved : goal.loop-m-preserved
+loop-m-preserved c =
+    let chained = c.args.chained.now in
+    let n = stage_count chained in
+    let moves = chained.lists.moves.now in
+    let i = c.loop-m.m-index in
+    let m : Move = get_or moves i no_move in
+    let ends = chained.linked.leaves.within i c.loop-m-test.true in
+    let set = listed n c.args.self.now in
+    let was = c.loop-m.sources in
+    let next = c.add_source.new.self in
+    λ s h.
+    into_step set (timed_move m) (map timed_move (drop (i + 1) moves)) s (has was s) (has next s)
+    (c.add_source.ensures s
+    ∙ ap (λ b. has was s or (eqb m.leaves s and b)) (sym (row_at n c.args.self.now.words m.enters ends.1)))
+    ∙ ap (λ b. has was s or b)
+    (sym (at_drop_more (λ (ms : List Move). into any_move (map timed_move ms) set s) moves i no_move
+    c.loop-m-test.true))
+    ∙ c.loop-m.invariant s h
+
+pub returns : goal.returns
+returns c =
+    let chained = c.args.chained.now in
+    let set = listed (stage_count chained) c.args.self.now in
+    let found = c.loop-m.sources in
+    λ s h.
+    sym (or_none (has found s))
+    ∙ ap (λ b. has found s or b)
+    (sym (at_drop_all (λ (ms : List Move). into any_move (map timed_move ms) set s) chained.lists.moves.now
+    c.loop-m.m-index c.loop-m-test.false))
+    ∙ c.loop-m.invariant s h
