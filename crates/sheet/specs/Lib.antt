@@ -2,4 +2,3 @@ pub mod Sets
 pub mod Told
 pub mod Tables
 pub mod Sheets
-pub mod Tables
