@@ -12,9 +12,8 @@ use Rattle.tally.specs.Walks.{Has}
 use Rattle.tally.specs.Rounds.{Within}
 use Rattle.tctl.specs.Checker.{still}
 use Rattle.tctl.proofs.Basics.{and_l, and_r, pigeon}
-use Rattle.sheet.specs.Rows.{both}
 use Rattle.checker.specs.Outcomes.{StillWalk, Cycle}
-use Rattle.checker.specs.Found.{meets, ahead, steps}
+use Rattle.checker.specs.Found.{both, meets, ahead, steps}
 
 module _ (S : ℕ → Bool) where
   abbrev Ahead : List Move → ℕ → Type 0

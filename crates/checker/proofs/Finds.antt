@@ -15,10 +15,9 @@ use Rattle.tctl.specs.Checker.{non, at, table, endless, still, any_move, into, a
 use Rattle.tctl.proofs.Basics.{and_l, and_r, and_i, table_e, table_i}
 use Rattle.tctl.proofs.Endless.{into_i, in_step, in_set, in_pull, fixed}
 use Rattle.tctl.proofs.Tested.{all_i, test_right_lem}
-use Rattle.sheet.specs.Rows.{both}
 use Rattle.sheet.proofs.Sets.{timed_move_at}
 use Rattle.checker.specs.Outcomes.{Memory, Enough, AllOnward, Cycle}
-use Rattle.checker.specs.Found.{enough?, ahead, steps}
+use Rattle.checker.specs.Found.{both, enough?, ahead, steps}
 use Rattle.checker.proofs.Cycles.{goes_round, stays, steps_same, cycle_next, has_place}
 
 -- The test of the memory.

@@ -4,8 +4,7 @@ use Rattle.std.specs.Prelude.{Option, ◌==◌, nat_le}
 use Rattle.program.specs.declared.Move.{Move}
 use Rattle.program.specs.Meaning.{Prog}
 use Rattle.program.specs.Graphs.{timed_move}
-use Rattle.tctl.specs.Checker.{still}
-use Rattle.sheet.specs.Rows.{both}
+use Rattle.tctl.specs.Checker.{still, ◌and◌}
 use Rattle.checker.specs.Outcomes.{Memory, AllOnward, IsDeadEnd, Cycle}
 
 -- The lowest stage that no move leaves, or there is none.
@@ -17,6 +16,9 @@ DeadFound p None = AllOnward p
 abbrev pub CycleFound : Prog → Option ℕ → Type 0
 CycleFound p (Some s) = (s < length p.stages) × Cycle p s
 CycleFound p None = (s : ℕ) → Cycle p s → ⊥
+
+abbrev pub both : Bool → Bool → Bool
+both a b = a and b
 
 -- There is a word a stage in the sheet, and four entries a stage in each table.
 abbrev pub enough? : ℕ → Memory → Bool

@@ -2,7 +2,7 @@
 ghost use Rattle.std.specs.Prelude.{◌≡◌, ◌≤◌, length};
 ghost use Rattle.program.specs.Meaning.{most_stages, prog};
 ghost use Rattle.rules.specs.Lines.{most_lines, WellFormed};
-ghost use Rattle.sheet.specs.Tables.{SameLoans};
+ghost use Rattle.sheet.specs.Tables.{SameSlices};
 ghost use Rattle.checker.specs.Outcomes.{held, Outcome};
 ghost use Rattle.checker.specs.Found.{enough?};
 
@@ -36,7 +36,7 @@ pub(crate) fn check_rows(
     requires formed { WellFormed lines.now }
     ensures does { Outcome (prog lists.now.stages.now lists.now.moves.now) lines.now
         (held sheet.old tables.old) (held sheet.new tables.new) result }
-    ensures same { SameLoans tables.old tables.new }
+    ensures slices { SameSlices tables.old tables.new }
 {
     let n = lists.stages.len();
     if n == 0 {
@@ -52,14 +52,6 @@ pub(crate) fn check_rows(
     if !has_room(n, sheet, tables) {
         return Err(CheckFault::ShortMemory);
     }
-    check_lines(
-        lists.stages,
-        lists.moves,
-        lines,
-        sheet,
-        tables.reached,
-        tables.shortest,
-        tables.longest,
-    );
+    check_lines(&chained, lines, sheet, tables);
     Ok(lines.len())
 }

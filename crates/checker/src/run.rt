@@ -1,7 +1,7 @@
 // The check on any readable program: the program is asked once for each of its stages and moves.
 ghost use Rattle.std.specs.Prelude.{◌≡◌, ◌≤◌, length};
 ghost use Rattle.rules.specs.Lines.{most_lines, WellFormed};
-ghost use Rattle.sheet.specs.Tables.{SameLoans};
+ghost use Rattle.sheet.specs.Tables.{SameSlices};
 ghost use Rattle.checker.specs.Outcomes.{held, Outcome};
 ghost use Rattle.checker.specs.Checks.{Check};
 
@@ -24,7 +24,7 @@ pub(crate) fn check_lines_of<P: Program>(
     requires formed { WellFormed lines.now }
     ensures does { Outcome (P.Program.meaning program.now) lines.now
         (held sheet.old tables.old) (held sheet.new tables.new) result }
-    ensures same { SameLoans tables.old tables.new }
+    ensures slices { SameSlices tables.old tables.new }
 {
     let copy = ProgramCopy::of(program);
     check_rows(&copy.lists(), lines, sheet, tables)
@@ -39,7 +39,7 @@ pub fn check<P: Program>(
 ) -> Result<usize, CheckFault>
     ensures does { Check (P.Program.meaning program.now) text.now
         (held sheet.old tables.old) (held sheet.new tables.new) result }
-    ensures same { SameLoans tables.old tables.new }
+    ensures slices { SameSlices tables.old tables.new }
 {
     let rule = read(text)?;
     check_lines_of(program, rule.lines(), sheet, tables)

@@ -1,6 +1,10 @@
-use Rattle.std.proofs.Common.{ℕ, ◌<◌, length, sym, refl, subst, ◌∙◌, arith}
+use Rattle.std.proofs.Common.{ℕ, ◌<◌, ◌≤◌, length, sym, refl, subst, ◌∙◌, arith}
 use Rattle.program.specs.declared.lists.Lists.{Lists}
 use Rattle.program.specs.Meaning.{prog}
+use Rattle.program.specs.Graphs.{graph_of}
+use Rattle.tctl.specs.Runs.{Sound}
+use Rattle.sheet.specs.Tables.{HaveRoom, AreSpent}
+use Rattle.sheet.specs.Sheets.{Names}
 use Rattle.checker.specs.Outcomes.{held, Cycle}
 use Rattle.checker.proofs.Finds.{sound_if, enough_if, short_if}
 use Rattle.checker.proofs.rows.check_rows.Goals as goal
@@ -30,18 +34,17 @@ check_lines-requires c =
     let lists = c.args.lists.now in
     let was = held c.args.sheet.now c.args.tables.now in
     let enough = enough_if (length lists.stages.now) was (sym c.has_room.ensures ∙ c.if-not-has_room.false) in
+    let sound =
+    sound_if lists.stages.now lists.moves.now (λ k h. ((lists.limits.ends k h).0, (lists.limits.ends k h).1))
+    c.in_default.ensures still in
+    let back = sym c.of-chained.ensures in
     record {
-      few = lists.limits.few_stages;
-      sound =
-          sound_if lists.stages.now lists.moves.now
-          (λ k h. ((lists.limits.ends k h).0, (lists.limits.ends k h).1)) c.in_default.ensures
-          still;
+      sound = subst (λ (l : Lists). Sound (graph_of l.stages.now l.moves.now)) back sound;
       lines = c.requires.lines;
       formed = c.requires.formed;
-      sheet = enough.0;
-      room_reached = enough.1;
-      room_shortest = enough.2;
-      room_longest = enough.3;
+      sheet = subst (λ (l : Lists). length l.stages.now ≤ length c.args.sheet.now) back enough.0;
+      room = subst (λ (l : Lists). HaveRoom (length l.stages.now) c.args.tables.now) back
+          (record { reached = enough.1; shortest = enough.2; longest = enough.3 });
     }
 
 pub returns-clause-does : goal.returns-clause-does
@@ -49,16 +52,20 @@ returns-clause-does c =
     let still = subst (λ (l : Lists). (s : ℕ) → Cycle (prog l.stages.now l.moves.now) s → ⊥) c.of-chained.ensures
     c.in_default-still_stage.ensures in
     let all = c.check_lines.ensures in
-    let was = held c.args.sheet.now c.args.tables.now in (
+    let lists = c.args.lists.now in
+    let was = held c.args.sheet.now c.args.tables.now in
+    let spent = subst (λ (l : Lists). AreSpent (length l.stages.now) c.args.tables.now c.check_lines.new.tables)
+    c.of-chained.ensures all.spent in (
       (
         record { some = omega arith; onward = c.in_default.ensures; moving = still },
-        enough_if (length c.args.lists.now.stages.now) was (sym c.has_room.ensures ∙ c.if-not-has_room.false),
+        enough_if (length lists.stages.now) was (sym c.has_room.ensures ∙ c.if-not-has_room.false),
       ),
       refl,
       record {
-        names = all.names;
-        reached = all.spent_reached;
-        shortest = all.spent_shortest;
-        longest = all.spent_longest;
+        names = subst (λ (l : Lists). Names (prog l.stages.now l.moves.now) c.args.lines.now c.args.sheet.now
+            c.check_lines.new.sheet) c.of-chained.ensures all.names;
+        reached = spent.reached;
+        shortest = spent.shortest;
+        longest = spent.longest;
       },
     )

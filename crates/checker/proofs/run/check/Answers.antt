@@ -18,5 +18,5 @@ returns g c =
         subst (λ (ls : List Line). Outcome p ls was after r) (c.lines.ensures.value ∙ read.lines)
             c.check_lines_of.ensures.does,
       );
-      same = c.check_lines_of.ensures.same;
+      slices = c.check_lines_of.ensures.slices;
     }

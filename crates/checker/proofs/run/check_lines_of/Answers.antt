@@ -13,5 +13,5 @@ returns g c =
       does =
           subst (λ (p : Prog). Outcome p c.args.lines.now was after c.check_rows.result) (lists ∙ c.of-copy.ensures)
           c.check_rows.ensures.does;
-      same = c.check_rows.ensures.same;
+      slices = c.check_rows.ensures.slices;
     }
