@@ -163,7 +163,7 @@ run_value v (b ∷ bs) =
     (λ _. refl)
 
 run_apart : (bs : List ℕ) (c : ℕ) → Digit c → Starts (drop (run bs) bs) (c ∷ []) → ⊥
-run_apart [] c d = λ st. let e = st.1 in let z : ◌≡◌ {A = ℕ} 0 1 = cc in omega arith
+run_apart [] c d = λ st. let e = st.1 in cc
 run_apart (b ∷ bs) c d =
     by_cond (λ m. Starts (drop m (b ∷ bs)) (c ∷ []) → ⊥) (digit b) _ _ (λ _. run_apart bs c d)
     (λ no_digit st.
@@ -272,11 +272,11 @@ signs_written text [] e g = go (front text)
   where
     go : Front text → Writes text []
     go (blank a) = a
-    go (begins ws b bs a n t) = let x = first_of ws b bs a n t in let z : ◌≡◌ {A = ℕ} 0 1 = cc in absurd (omega arith)
+    go (begins ws b bs a n t) = let x = first_of ws b bs a n t in cc
 signs_written text (s ∷ ss) e g = go (front text) (λ rest t. signs_written rest ss t g.1)
   where
     go : Front text → ((rest : List ℕ) → signs rest ≡ ss → Writes rest ss) → Writes text (s ∷ ss)
-    go (blank a) next = let x = only_spaces text a in let z : ◌≡◌ {A = ℕ} 0 1 = cc in absurd (omega arith)
+    go (blank a) next = let x = only_spaces text a in cc
     go (begins ws b bs a n t) next =
         let x = sym (first_of ws b bs a n t) ∙ e in
         let same : sign b bs ≡ s = cc in
