@@ -83,7 +83,8 @@ begins {bs = bs} {b = b} k r =
     }
 
 -- the sign that begins with the first byte, which is x, of what is left after the spaces, and what follows it
-pub taken : {t0 bs rest : List ℕ} {s : Sign} {b x : ℕ} → Skipped t0 (b ∷ bs) → b ≡ x → Takes x bs s rest → Told t0 s rest
+pub taken : {t0 bs rest : List ℕ} {s : Sign} {b x : ℕ} → Skipped t0 (b ∷ bs) → b ≡ x → Takes x bs s rest
+    → Told t0 s rest
 taken {bs = bs} {rest = rest} {s = s} {b = b} k e h =
     let t = subst (λ c. Takes c bs s rest) (sym e) h in (sign b bs, t.first, begins k t.left)
 
@@ -160,7 +161,8 @@ number_found {bs = bs} {b = b} n k low high v r =
 
 -- `U`, and what follows it
 
-pub pair_no : (x y : ℕ) (bs : List ℕ) → (2 ≤ length bs → get_or bs 0 0 ≡ x → get_or bs 1 0 ≡ y → ⊥) → pair x y bs ≡ false
+pub pair_no : (x y : ℕ) (bs : List ℕ) → (2 ≤ length bs → get_or bs 0 0 ≡ x → get_or bs 1 0 ≡ y → ⊥)
+    → pair x y bs ≡ false
 pair_no x y [] n = refl
 pair_no x y (a ∷ []) n = refl
 pair_no x y (a ∷ b ∷ bs) n = go (eqb a x) refl (eqb b y) refl

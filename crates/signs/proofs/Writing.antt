@@ -39,7 +39,8 @@ digits_run [] bs a e = e
 digits_run (d ∷ ds) bs a e =
     let t : digit d ≡ true = digit_yes d a.0.0 a.0.1 in rw t (ap suc (digits_run ds bs a.1 e))
 
-digits_value : (v : ℕ) (ds bs : List ℕ) → AllByRecursion Digit ds → ((u : ℕ) → value u bs ≡ u) → value v (ds ++ bs) ≡ worth v ds
+digits_value : (v : ℕ) (ds bs : List ℕ) → AllByRecursion Digit ds → ((u : ℕ) → value u bs ≡ u)
+    → value v (ds ++ bs) ≡ worth v ds
 digits_value v [] bs a e = e v
 digits_value v (d ∷ ds) bs a e =
     let t : digit d ≡ true = digit_yes d a.0.0 a.0.1 in rw t (digits_value (v * 10 + (d - 48)) ds bs a.1 e)
@@ -131,7 +132,8 @@ written_good text (s ∷ ss) w = (bad_unwritten w.bytes s w.spelled, written_goo
 -- a text is spaces alone, or has a first byte that is none
 pub data Front (text : List ℕ) : Type 0 where
   blank : AllByRecursion Space text → Front text
-  begins : (ws : List ℕ) (b : ℕ) (bs : List ℕ) → AllByRecursion Space ws → (b ≡ 32 → ⊥) → text ≡ ws ++ (b ∷ bs) → Front text
+  begins : (ws : List ℕ) (b : ℕ) (bs : List ℕ) → AllByRecursion Space ws → (b ≡ 32 → ⊥)
+      → text ≡ ws ++ (b ∷ bs) → Front text
 
 front : (text : List ℕ) → Front text
 front [] = blank tt
@@ -154,7 +156,8 @@ digit_bounds b e = go (leb 48 b) refl (leb b 57) refl e
 run_digits : (bs : List ℕ) → AllByRecursion Digit (take (run bs) bs)
 run_digits [] = tt
 run_digits (b ∷ bs) =
-    by_cond (λ m. AllByRecursion Digit (take m (b ∷ bs))) (digit b) _ _ (λ e. (digit_bounds b e, run_digits bs)) (λ _. tt)
+    by_cond (λ m. AllByRecursion Digit (take m (b ∷ bs))) (digit b) _ _ (λ e. (digit_bounds b e, run_digits bs))
+    (λ _. tt)
 
 run_value : (v : ℕ) (bs : List ℕ) → worth v (take (run bs) bs) ≡ value v bs
 run_value v [] = refl
@@ -263,8 +266,8 @@ sign_meant b bs =
     (λ z. by_cond (λ s. P s 0) (eqb (run bs) 0) _ _ (λ e _. zero_meant b bs z e) (λ _ g. absurd (g refl)))
     (λ z. both_cond P (digit b) _ _ _ _ (number_meant b bs z) (λ _. plain_meant b bs)))
 
-first_of : {text : List ℕ} (ws : List ℕ) (b : ℕ) (bs : List ℕ) → AllByRecursion Space ws → (b ≡ 32 → ⊥) → text ≡ ws ++ (b ∷ bs)
-    → signs text ≡ sign b bs ∷ signs (drop (more b bs) bs)
+first_of : {text : List ℕ} (ws : List ℕ) (b : ℕ) (bs : List ℕ) → AllByRecursion Space ws → (b ≡ 32 → ⊥)
+    → text ≡ ws ++ (b ∷ bs) → signs text ≡ sign b bs ∷ signs (drop (more b bs) bs)
 first_of ws b bs a n e = ap signs e ∙ spaces_skipped ws (b ∷ bs) a ∙ first_byte b bs n
 
 signs_written : (text : List ℕ) (ss : List Sign) → signs text ≡ ss → AllByRecursion Good ss → Writes text ss
