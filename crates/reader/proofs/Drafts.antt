@@ -12,7 +12,7 @@ use Rattle.rules.specs.Postorder.{last, after_one, after_two, line_number, Small
 use Rattle.rules.proofs.Postorder.{small_front, small_last, small_push, large_push, large_last}
 use Rattle.signs.specs.Signs.{cap}
 use Rattle.reader.specs.declared.draft.Draft.{Draft}
-use Rattle.reader.specs.Drafts.{Drawn, Pushed, PushedUntil}
+use Rattle.reader.specs.Drafts.{Drawn, Pushed}
 use Rattle.reader.specs.Reads.{told_bound}
 
 when_map : {P Q X Y : Type 0} (b : Bool) → (P → X) → (Q → Y) → MatchBool b P Q → MatchBool b X Y
@@ -77,9 +77,9 @@ told_small : (b : Bound) → bound_number b ≤ largest_number → told_bound b 
 told_small (AtMost n) s = ap AtMost (omega arith)
 told_small (AtLeast n) s = ap AtLeast (omega arith)
 
-pub push_until : {d1 d2 d3 : Draft} (q : Quantifier) (c b : Bound) (i : ℕ) (ms ns : List Line) → Drawn d1 ms
-    → Drawn d2 ns → length ms ≤ length ns → PushedUntil d2 q i c d3 → c ≡ told_bound b → i ≡ d1.count - 1
-    → Drawn d3 (after_two (λ a k. Until q a b k) ms ns)
-push_until q c b i ms ns left right l p t x =
-    push_two (λ a k. Until q a c k) (λ a k. Until q a b k) i _ ms ns left right l p x refl
+pub push_until : {d1 d2 d3 : Draft} (q : Quantifier) (c b : Bound) (i j : ℕ) (ms ns : List Line) → Drawn d1 ms
+    → Drawn d2 ns → length ms ≤ length ns → Pushed d2 (Until q i c j) d3 → c ≡ told_bound b → i ≡ d1.count - 1
+    → j ≡ d2.count - 1 → Drawn d3 (after_two (λ a k. Until q a b k) ms ns)
+push_until q c b i j ms ns left right l p t x y =
+    push_two (λ a k. Until q a c k) (λ a k. Until q a b k) i j ms ns left right l p x y
     (λ a k. ap bound_number t ∙ told_number b) (λ a k s. ap (λ z. Until q a z k) (t ∙ told_small b s))

@@ -43,7 +43,8 @@ mutual
       let x = term_lettered t (spell_terms ts ss) a.1 in
       terms_lettered ts _ ss (l, x.0) x.1
 
-  term_lettered : (t : Term) (ss : List Sign) → AllByRecursion Fair (spell_term t ss) → Lettered (tree_term t) × AllByRecursion Fair ss
+  term_lettered : (t : Term) (ss : List Sign) → AllByRecursion Fair (spell_term t ss)
+      → Lettered (tree_term t) × AllByRecursion Fair ss
   term_lettered (items i is) ss a =
       let x = item_lettered i (spell_items is ss) a in
       items_lettered is (tree_item i) ss x.0 x.1
@@ -55,7 +56,8 @@ mutual
       let x = item_lettered i (spell_items is ss) a.1 in
       items_lettered is _ ss (l, x.0) x.1
 
-  item_lettered : (i : Item) (ss : List Sign) → AllByRecursion Fair (spell_item i ss) → Lettered (tree_item i) × AllByRecursion Fair ss
+  item_lettered : (i : Item) (ss : List Sign) → AllByRecursion Fair (spell_item i ss)
+      → Lettered (tree_item i) × AllByRecursion Fair ss
   item_lettered one ss a = (tt, a.1)
   item_lettered (letter k) ss a = (a.0, a.1)
   item_lettered (not i) ss a = item_lettered i ss a.1

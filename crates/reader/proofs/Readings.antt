@@ -1,5 +1,5 @@
 -- A reading of a text, in the grammar and as the readers take it.
-use Rattle.std.proofs.Common.{◌≡◌, ℕ, List, [], sym, ap, ◌∙◌, arith}
+use Rattle.std.proofs.Common.{◌≡◌, ℕ, List, [], sym, ap, ◌∙◌}
 use Rattle.std.specs.List.{AllByRecursion}
 use Rattle.std.proofs.ByRecursion.{All-append}
 use Rattle.std.proofs.lemmas.List.{append-nil}
@@ -17,18 +17,18 @@ use Rattle.reader.proofs.Grammar.{rule_parted, formula_is}
 use Rattle.reader.proofs.Unique.{formula_same}
 
 good_bound : {ss : List Sign} {b : Bound} → IsBound ss b → AllByRecursion Good ss
-good_bound grammar.plain = (λ e. let z : ◌≡◌ {A = ℕ} 0 1 = cc in omega arith, tt)
+good_bound grammar.plain = (λ e. cc, tt)
 good_bound grammar.at_most =
-    (λ e. let z : ◌≡◌ {A = ℕ} 0 1 = cc in omega arith, (λ e. let z : ◌≡◌ {A = ℕ} 0 1 = cc in omega arith, tt))
+    (λ e. cc, (λ e. cc, tt))
 good_bound grammar.at_least =
-    (λ e. let z : ◌≡◌ {A = ℕ} 0 1 = cc in omega arith, (λ e. let z : ◌≡◌ {A = ℕ} 0 1 = cc in omega arith, tt))
+    (λ e. cc, (λ e. cc, tt))
 
 good_until : (q : Quantifier) (ss bs us : List Sign) → AllByRecursion Good ss → AllByRecursion Good bs
     → AllByRecursion Good us → AllByRecursion Good (until_signs q ss bs us)
 good_until q ss bs us x y z =
-    let close : Good CloseSquare = λ e. let n : ◌≡◌ {A = ℕ} 0 1 = cc in omega arith in
-    let first : Good (Each q) = λ e. let n : ◌≡◌ {A = ℕ} 0 1 = cc in omega arith in
-    let open_square : Good OpenSquare = λ e. let n : ◌≡◌ {A = ℕ} 0 1 = cc in omega arith in
+    let close : Good CloseSquare = λ e. cc in
+    let first : Good (Each q) = λ e. cc in
+    let open_square : Good OpenSquare = λ e. cc in
     (first, (open_square, All-append Good ss _ x (All-append Good bs _ y (All-append Good us _ z (close, tt)))))
 
 -- the grammar takes no bad sign
@@ -36,20 +36,20 @@ mutual
   good_rule : {ss : List Sign} {f : Rule} → IsRule ss f → AllByRecursion Good ss
   good_rule (grammar.term t) = good_term t
   good_rule (grammar.bar r t) =
-      All-append Good _ _ (good_rule r) (λ e. let z : ◌≡◌ {A = ℕ} 0 1 = cc in omega arith, good_term t)
+      All-append Good _ _ (good_rule r) (λ e. cc, good_term t)
 
   good_term : {ss : List Sign} {f : Rule} → IsTerm ss f → AllByRecursion Good ss
   good_term (grammar.item i) = good_item i
   good_term (grammar.amp t i) =
-      All-append Good _ _ (good_term t) (λ e. let z : ◌≡◌ {A = ℕ} 0 1 = cc in omega arith, good_item i)
+      All-append Good _ _ (good_term t) (λ e. cc, good_item i)
 
   good_item : {ss : List Sign} {f : Rule} → IsItem ss f → AllByRecursion Good ss
-  good_item grammar.one_sign = (λ e. let z : ◌≡◌ {A = ℕ} 0 1 = cc in omega arith, tt)
-  good_item grammar.letter_sign = (λ e. let z : ◌≡◌ {A = ℕ} 0 1 = cc in omega arith, tt)
-  good_item (grammar.bang i) = (λ e. let z : ◌≡◌ {A = ℕ} 0 1 = cc in omega arith, good_item i)
+  good_item grammar.one_sign = (λ e. cc, tt)
+  good_item grammar.letter_sign = (λ e. cc, tt)
+  good_item (grammar.bang i) = (λ e. cc, good_item i)
   good_item (grammar.round r) =
-      let close : Good Close = λ e. let z : ◌≡◌ {A = ℕ} 0 1 = cc in omega arith in
-      (λ e. let z : ◌≡◌ {A = ℕ} 0 1 = cc in omega arith, All-append Good _ _ (good_rule r) (close, tt))
+      let close : Good Close = λ e. cc in
+      (λ e. cc, All-append Good _ _ (good_rule r) (close, tt))
   good_item (grammar.some l b r) = good_until _ _ _ _ (good_rule l) (good_bound b) (good_rule r)
   good_item (grammar.each l b r) = good_until _ _ _ _ (good_rule l) (good_bound b) (good_rule r)
 

@@ -14,14 +14,14 @@ use Rattle.rules.specs.Lines.{until_rule}
 use Rattle.rules.specs.Postorder.{put, after_two}
 use Rattle.rules.proofs.Postorder.{put_longer}
 use Rattle.signs.specs.declared.Sign.{Sign}
-use Rattle.signs.specs.declared.Sign.TheVariants.{Open, Close, OpenSquare, CloseSquare, Bang, Amp, Bar, Each, Until}
+use Rattle.signs.specs.declared.Sign.TheVariants.{Open, Close, OpenSquare, CloseSquare, Bang, Amp, Bar, Each}
 use Rattle.signs.specs.declared.Sign.TheVariants.{UntilAtMost, UntilAtLeast, Letter, Number}
 use Rattle.signs.specs.Signs.{signs, told, cap}
-use Rattle.signs.specs.First.{Begins, Told, After}
-use Rattle.signs.proofs.Told.{exactly}
+use Rattle.signs.specs.First.{Begins, Told}
 use Rattle.reader.specs.declared.draft.Draft.{Draft}
-use Rattle.reader.specs.Drafts.{Drawn, Pushed, PushedUntil}
-use Rattle.reader.specs.Parts.{Limit, plain, at_most, at_least, Formula, Terms, Term, Items, Item, Body, body, terms}
+use Rattle.reader.specs.declared.parts.Reader.{Reader}
+use Rattle.reader.specs.Drafts.{Drawn, Pushed}
+use Rattle.reader.specs.Parts.{Limit, at_most, at_least, Formula, Terms, Term, Items, Item, Body, body, terms}
 use Rattle.reader.specs.Parts.{no_term, bar, items, no_item, amp, one, letter, not, round, until, spell_limit, bound_of}
 use Rattle.reader.specs.Parts.{spell_formula, spell_terms, spell_term, spell_items, spell_item, spell_body}
 use Rattle.reader.specs.Parts.{tree_formula, tree_terms, tree_term, tree_items, tree_item, tree_body}
@@ -32,24 +32,25 @@ use Rattle.reader.proofs.Unique.{term_same, item_same}
 
 -- parts of the grammar that go on from one text to what is left of it, and join their lines to those of f
 pub record Grew {F : Type 0} (spell : F → List Sign → List Sign) (tree : F → Rule → Rule) (Stop : List Sign → Type 0)
-    (text rest : List ℕ) (before after : Draft) : Type 0 where
+    (text rest : List ℕ) (before after : Draft) (number : ℕ) : Type 0 where
   pub parts : F
   pub splits : signs text ≡ spell parts (signs rest)
   pub adds : (f : Rule) (ls : List Line) → Drawn before (put f ls) → Drawn after (put (tree parts f) ls)
+  pub last : number ≡ after.count - 1
   pub stops : Stop (signs rest)
   pub shorter : length rest ≤ length text
 
-abbrev pub TookItem : List ℕ → List ℕ → Draft → Draft → Type 0
-TookItem text rest d e = Took spell_item tree_item Anything text rest d e
+abbrev pub TookItem : List ℕ → List ℕ → Draft → Draft → ℕ → Type 0
+TookItem text rest d e n = Took spell_item tree_item Anything text rest d e n
 
-abbrev pub TookTerm : List ℕ → List ℕ → Draft → Draft → Type 0
-TookTerm text rest d e = Took spell_term tree_term NoAmp text rest d e
+abbrev pub TookTerm : List ℕ → List ℕ → Draft → Draft → ℕ → Type 0
+TookTerm text rest d e n = Took spell_term tree_term NoAmp text rest d e n
 
-abbrev pub TookRule : List ℕ → List ℕ → Draft → Draft → Type 0
-TookRule text rest d e = Took spell_formula tree_formula NoJoint text rest d e
+abbrev pub TookRule : List ℕ → List ℕ → Draft → Draft → ℕ → Type 0
+TookRule text rest d e n = Took spell_formula tree_formula NoJoint text rest d e n
 
-abbrev pub TookBody : Quantifier → List ℕ → List ℕ → Draft → Draft → Type 0
-TookBody q text rest d e = Took spell_body (tree_body q) Anything text rest d e
+abbrev pub TookBody : Quantifier → List ℕ → List ℕ → Draft → Draft → ℕ → Type 0
+TookBody q text rest d e n = Took spell_body (tree_body q) Anything text rest d e n
 
 abbrev pub LacksItem : List ℕ → Type 0
 LacksItem text = Lacks spell_item Anything text
@@ -63,11 +64,11 @@ LacksRule text = Lacks spell_formula NoJoint text
 abbrev pub LacksBody : List ℕ → Type 0
 LacksBody text = Lacks spell_body Anything text
 
-abbrev pub GrewItems : List ℕ → List ℕ → Draft → Draft → Type 0
-GrewItems text rest d e = Grew spell_items tree_items Anything text rest d e
+abbrev pub GrewItems : List ℕ → List ℕ → Draft → Draft → ℕ → Type 0
+GrewItems text rest d e n = Grew spell_items tree_items Anything text rest d e n
 
-abbrev pub GrewTerms : List ℕ → List ℕ → Draft → Draft → Type 0
-GrewTerms text rest d e = Grew spell_terms tree_terms NoAmp text rest d e
+abbrev pub GrewTerms : List ℕ → List ℕ → Draft → Draft → ℕ → Type 0
+GrewTerms text rest d e n = Grew spell_terms tree_terms NoAmp text rest d e n
 
 pub without : (s : Sign) (us : List Sign) → ((ss : List Sign) → us ≡ s ∷ ss → ⊥) → Without s us
 without s [] n = tt
@@ -128,7 +129,7 @@ tree_snoc_term no_term u f = refl
 tree_snoc_term (bar t ts) u f = tree_snoc_term ts u (tree.either f (tree_term t))
 
 bar_free : (ss : List Sign) → NoAmp (Bar ∷ ss)
-bar_free ss = λ e. let z : ◌≡◌ {A = ℕ} 0 1 = cc in omega arith
+bar_free ss = λ e. cc
 
 terms_on : (ts us : Terms) (vs ss : List Sign) → spell_terms ts (Bar ∷ vs) ≡ spell_terms us ss → NoJoint ss
     → (u : Term) × (xs : List Sign) × NoAmp xs × (vs ≡ spell_term u xs)
@@ -146,14 +147,15 @@ pub term_lacks : (text : List ℕ) → LacksItem text → LacksTerm text
 unfolding spell_formula
 term_lacks text l (items i is) ss e n = l i (spell_items is ss) e tt
 
-pub term_starts : {text rest : List ℕ} {d e : Draft} → TookItem text rest d e → GrewItems rest rest e e
+pub term_starts : {text rest : List ℕ} {d e : Draft} {n : ℕ} → TookItem text rest d e n → GrewItems rest rest e e n
 unfolding spell_formula tree_formula
-term_starts h = record { parts = no_item; splits = refl; adds = λ f ls x. x; stops = tt; shorter = omega arith }
+term_starts h =
+    record { parts = no_item; splits = refl; adds = λ f ls x. x; last = h.last; stops = tt; shorter = omega arith }
 
-pub term_goes_on : {r0 rest next after : List ℕ} {d0 d1 d2 d3 : Draft} (i : ℕ) → GrewItems r0 rest d0 d1
-    → Begins rest Amp after → TookItem after next d1 d2 → Pushed d2 (line.And i (d2.count - 1)) d3 → i ≡ d1.count - 1
-    → GrewItems r0 next d0 d3
-term_goes_on {next = next} {d3 = d3} i g s h p x =
+pub term_goes_on : {r0 rest next after : List ℕ} {d0 d1 d2 d3 : Draft} {i j k : ℕ} → GrewItems r0 rest d0 d1 i
+    → Begins rest Amp after → TookItem after next d1 d2 j → Pushed d2 (line.And i j) d3 → k ≡ d3.count - 1
+    → GrewItems r0 next d0 d3 k
+term_goes_on {next = next} {d3 = d3} {i} {j} g s h p last =
     record {
       parts = snoc_item g.parts h.part;
       splits =
@@ -163,28 +165,30 @@ term_goes_on {next = next} {d3 = d3} i g s h p x =
           λ f ls w.
           let u = g.adds f ls w in
           subst (λ z. Drawn d3 (put z ls)) (sym (tree_snoc_item g.parts h.part f))
-          (push_two line.And line.And i _ _ _ u (h.adds _ u) (not_shorter (tree_item h.part) _) p x refl
+          (push_two line.And line.And i j _ _ u (h.adds _ u) (not_shorter (tree_item h.part) _) p g.last h.last
           (λ a b. refl) (λ a b z. refl));
+      last = last;
       stops = tt;
       shorter = omega (arith, g.shorter, s.shorter, h.shorter);
     }
 
-pub term_lacks_on : {text r0 rest after : List ℕ} {before d0 d1 : Draft} → TookItem text r0 before d0
-    → GrewItems r0 rest d0 d1 → Begins rest Amp after → LacksItem after → LacksTerm text
+pub term_lacks_on : {text r0 rest after : List ℕ} {before d0 d1 : Draft} {m n : ℕ} → TookItem text r0 before d0 m
+    → GrewItems r0 rest d0 d1 n → Begins rest Amp after → LacksItem after → LacksTerm text
 unfolding spell_formula
 term_lacks_on h g s l (items i is) ss e n =
     let a = item_same h.part i _ _ (sym h.splits ∙ e) in
     let b = items_on g.parts is _ ss (sym (ap (spell_items g.parts) s.splits) ∙ sym g.splits ∙ a.1) n in
     l b.0 b.1 b.2 tt
 
-pub term_ends : {text r0 rest : List ℕ} {before d0 d1 : Draft} → TookItem text r0 before d0 → GrewItems r0 rest d0 d1
-    → ((ss : List Sign) → signs rest ≡ Amp ∷ ss → ⊥) → TookTerm text rest before d1
+pub term_ends : {text r0 rest : List ℕ} {before d0 d1 : Draft} {m n : ℕ} → TookItem text r0 before d0 m
+    → GrewItems r0 rest d0 d1 n → ((ss : List Sign) → signs rest ≡ Amp ∷ ss → ⊥) → TookTerm text rest before d1 n
 unfolding spell_formula tree_formula
 term_ends h g n =
     record {
       part = items h.part g.parts;
       splits = h.splits ∙ ap (spell_item h.part) g.splits;
       adds = λ ls w. g.adds (tree_item h.part) ls (h.adds ls w);
+      last = g.last;
       stops = without Amp _ n;
       shorter = omega (arith, h.shorter, g.shorter);
     }
@@ -195,14 +199,22 @@ pub rule_lacks : (text : List ℕ) → LacksTerm text → LacksRule text
 unfolding spell_formula
 rule_lacks text l (terms t ts) ss e n = l t (spell_terms ts ss) e (terms_free ts ss n.0)
 
-pub rule_starts : {text rest : List ℕ} {d e : Draft} → TookTerm text rest d e → GrewTerms rest rest e e
+pub rule_starts : {text rest : List ℕ} {d e : Draft} {n : ℕ} → TookTerm text rest d e n → GrewTerms rest rest e e n
 unfolding spell_formula tree_formula
-rule_starts h = record { parts = no_term; splits = refl; adds = λ f ls x. x; stops = h.stops; shorter = omega arith }
+rule_starts h =
+    record {
+      parts = no_term;
+      splits = refl;
+      adds = λ f ls x. x;
+      last = h.last;
+      stops = h.stops;
+      shorter = omega arith;
+    }
 
-pub rule_goes_on : {r0 rest next after : List ℕ} {d0 d1 d2 d3 : Draft} (i : ℕ) → GrewTerms r0 rest d0 d1
-    → Begins rest Bar after → TookTerm after next d1 d2 → Pushed d2 (line.Or i (d2.count - 1)) d3 → i ≡ d1.count - 1
-    → GrewTerms r0 next d0 d3
-rule_goes_on {next = next} {d3 = d3} i g s h p x =
+pub rule_goes_on : {r0 rest next after : List ℕ} {d0 d1 d2 d3 : Draft} {i j k : ℕ} → GrewTerms r0 rest d0 d1 i
+    → Begins rest Bar after → TookTerm after next d1 d2 j → Pushed d2 (line.Or i j) d3 → k ≡ d3.count - 1
+    → GrewTerms r0 next d0 d3 k
+rule_goes_on {next = next} {d3 = d3} {i} {j} g s h p last =
     record {
       parts = snoc_term g.parts h.part;
       splits =
@@ -212,28 +224,30 @@ rule_goes_on {next = next} {d3 = d3} i g s h p x =
           λ f ls w.
           let u = g.adds f ls w in
           subst (λ z. Drawn d3 (put z ls)) (sym (tree_snoc_term g.parts h.part f))
-          (push_two line.Or line.Or i _ _ _ u (h.adds _ u) (not_shorter (tree_term h.part) _) p x refl
+          (push_two line.Or line.Or i j _ _ u (h.adds _ u) (not_shorter (tree_term h.part) _) p g.last h.last
           (λ a b. refl) (λ a b z. refl));
+      last = last;
       stops = h.stops;
       shorter = omega (arith, g.shorter, s.shorter, h.shorter);
     }
 
-pub rule_lacks_on : {text r0 rest after : List ℕ} {before d0 d1 : Draft} → TookTerm text r0 before d0
-    → GrewTerms r0 rest d0 d1 → Begins rest Bar after → LacksTerm after → LacksRule text
+pub rule_lacks_on : {text r0 rest after : List ℕ} {before d0 d1 : Draft} {m n : ℕ} → TookTerm text r0 before d0 m
+    → GrewTerms r0 rest d0 d1 n → Begins rest Bar after → LacksTerm after → LacksRule text
 unfolding spell_formula
 rule_lacks_on h g s l (terms t ts) ss e n =
     let a = term_same h.part t _ _ (sym h.splits ∙ e) h.stops (terms_free ts ss n.0) in
     let b = terms_on g.parts ts _ ss (sym (ap (spell_terms g.parts) s.splits) ∙ sym g.splits ∙ a.1) n in
     l b.0 b.1 b.3 b.2
 
-pub rule_ends : {text r0 rest : List ℕ} {before d0 d1 : Draft} → TookTerm text r0 before d0 → GrewTerms r0 rest d0 d1
-    → ((ss : List Sign) → signs rest ≡ Bar ∷ ss → ⊥) → TookRule text rest before d1
+pub rule_ends : {text r0 rest : List ℕ} {before d0 d1 : Draft} {m n : ℕ} → TookTerm text r0 before d0 m
+    → GrewTerms r0 rest d0 d1 n → ((ss : List Sign) → signs rest ≡ Bar ∷ ss → ⊥) → TookRule text rest before d1 n
 unfolding spell_formula tree_formula
 rule_ends h g n =
     record {
       part = terms h.part g.parts;
       splits = h.splits ∙ ap (spell_term h.part) g.splits;
       adds = λ ls w. g.adds (tree_term h.part) ls (h.adds ls w);
+      last = g.last;
       stops = (g.stops, without Bar _ n);
       shorter = omega (arith, h.shorter, g.shorter);
     }
@@ -256,7 +270,7 @@ module _ {text r1 : List ℕ} (o : Begins text OpenSquare r1) where
   unfolding spell_body
   body_lacks_left l (body f b g) ss e a = l f _ (tail_same _ _ (sym o.splits ∙ e)) (limit_free b _)
 
-  module _ {r2 : List ℕ} {d0 d1 : Draft} (h : TookRule r1 r2 d0 d1) where
+  module _ {r2 : List ℕ} {d0 d1 : Draft} {i : ℕ} (h : TookRule r1 r2 d0 d1 i) where
     left_same : (f : Formula) (b : Limit) (g : Formula) (ss : List Sign) → signs text ≡ spell_body (body f b g) ss
         → signs r2 ≡ spell_limit b (spell_formula g (CloseSquare ∷ ss))
     unfolding spell_body
@@ -275,15 +289,15 @@ module _ {text r1 : List ℕ} (o : Begins text OpenSquare r1) where
       pub body_lacks_right : LacksRule r3 → LacksBody text
       body_lacks_right l (body f b g) ss e a = l g _ (limit_goes f b g ss e) (square_free ss)
 
-      module _ {r4 : List ℕ} {d2 : Draft} (k : TookRule r3 r4 d1 d2) where
+      module _ {r4 : List ℕ} {d2 : Draft} {j : ℕ} (k : TookRule r3 r4 d1 d2 j) where
         pub body_lacks_close : ((ss : List Sign) → signs r4 ≡ CloseSquare ∷ ss → ⊥) → LacksBody text
         body_lacks_close n (body f b g) ss e a =
             n ss (formula_same k.part g _ _ (sym k.splits ∙ limit_goes f b g ss e) k.stops (square_free ss)).1
 
-        pub body_ends : {r5 : List ℕ} {d3 : Draft} (q : Quantifier) (i : ℕ) → Begins r4 CloseSquare r5
-            → PushedUntil d2 q i c d3 → i ≡ d1.count - 1 → TookBody q text r5 d0 d3
+        pub body_ends : {r5 : List ℕ} {d3 : Draft} {n : ℕ} (q : Quantifier) → Begins r4 CloseSquare r5
+            → Pushed d2 (line.Until q i c j) d3 → n ≡ d3.count - 1 → TookBody q text r5 d0 d3 n
         unfolding spell_body tree_body
-        body_ends {r5} {d3} q i z p x =
+        body_ends {r5} {d3} q z p last =
             record {
               part = body h.part m.limit k.part;
               splits =
@@ -296,7 +310,8 @@ module _ {text r1 : List ℕ} (o : Begins text OpenSquare r1) where
                   let f = tree_formula h.part in
                   let g = tree_formula k.part in
                   subst (Drawn d3) (sym (put_until q (bound_of m.limit) f g ls))
-                  (push_until q c (bound_of m.limit) i _ _ u (k.adds _ u) (not_shorter g _) p m.bound x);
+                  (push_until q c (bound_of m.limit) i j _ _ u (k.adds _ u) (not_shorter g _) p m.bound h.last k.last);
+              last = last;
               stops = tt;
               shorter = omega (arith, o.shorter, h.shorter, m.shorter, k.shorter, z.shorter);
             }
@@ -305,54 +320,54 @@ module _ {text r1 : List ℕ} (o : Begins text OpenSquare r1) where
 
 pub item_lacks_none : (text : List ℕ) → signs text ≡ [] → LacksItem text
 unfolding spell_formula spell_body
-item_lacks_none text n one ss e a = let z : ◌≡◌ {A = ℕ} 0 1 = cc in omega arith
-item_lacks_none text n (letter k) ss e a = let z : ◌≡◌ {A = ℕ} 0 1 = cc in omega arith
-item_lacks_none text n (not i) ss e a = let z : ◌≡◌ {A = ℕ} 0 1 = cc in omega arith
-item_lacks_none text n (round f) ss e a = let z : ◌≡◌ {A = ℕ} 0 1 = cc in omega arith
-item_lacks_none text n (until q f b g) ss e a = let z : ◌≡◌ {A = ℕ} 0 1 = cc in omega arith
+item_lacks_none text n one ss e a = cc
+item_lacks_none text n (letter k) ss e a = cc
+item_lacks_none text n (not i) ss e a = cc
+item_lacks_none text n (round f) ss e a = cc
+item_lacks_none text n (until q f b g) ss e a = cc
 
 pub item_lacks_number : {text rest : List ℕ} (n : ℕ) → Begins text (Number n) rest → (n ≡ 1 → ⊥) → LacksItem text
 unfolding spell_formula spell_body
 item_lacks_number n s l one ss e a = l (cc (s.splits, e))
-item_lacks_number n s l (letter k) ss e a = let z : ◌≡◌ {A = ℕ} 0 1 = cc in omega arith
-item_lacks_number n s l (not i) ss e a = let z : ◌≡◌ {A = ℕ} 0 1 = cc in omega arith
-item_lacks_number n s l (round f) ss e a = let z : ◌≡◌ {A = ℕ} 0 1 = cc in omega arith
-item_lacks_number n s l (until q f b g) ss e a = let z : ◌≡◌ {A = ℕ} 0 1 = cc in omega arith
+item_lacks_number n s l (letter k) ss e a = cc
+item_lacks_number n s l (not i) ss e a = cc
+item_lacks_number n s l (round f) ss e a = cc
+item_lacks_number n s l (until q f b g) ss e a = cc
 
 pub item_lacks_not : {text rest : List ℕ} → Begins text Bang rest → LacksItem rest → LacksItem text
 unfolding spell_formula spell_body
-item_lacks_not s l one ss e a = let z : ◌≡◌ {A = ℕ} 0 1 = cc in omega arith
-item_lacks_not s l (letter k) ss e a = let z : ◌≡◌ {A = ℕ} 0 1 = cc in omega arith
+item_lacks_not s l one ss e a = cc
+item_lacks_not s l (letter k) ss e a = cc
 item_lacks_not s l (not i) ss e a = l i ss (tail_same _ _ (sym s.splits ∙ e)) tt
-item_lacks_not s l (round f) ss e a = let z : ◌≡◌ {A = ℕ} 0 1 = cc in omega arith
-item_lacks_not s l (until q f b g) ss e a = let z : ◌≡◌ {A = ℕ} 0 1 = cc in omega arith
+item_lacks_not s l (round f) ss e a = cc
+item_lacks_not s l (until q f b g) ss e a = cc
 
 pub item_lacks_round : {text rest : List ℕ} → Begins text Open rest → LacksRule rest → LacksItem text
 unfolding spell_formula spell_body
-item_lacks_round s l one ss e a = let z : ◌≡◌ {A = ℕ} 0 1 = cc in omega arith
-item_lacks_round s l (letter k) ss e a = let z : ◌≡◌ {A = ℕ} 0 1 = cc in omega arith
-item_lacks_round s l (not i) ss e a = let z : ◌≡◌ {A = ℕ} 0 1 = cc in omega arith
+item_lacks_round s l one ss e a = cc
+item_lacks_round s l (letter k) ss e a = cc
+item_lacks_round s l (not i) ss e a = cc
 item_lacks_round s l (round f) ss e a = l f _ (tail_same _ _ (sym s.splits ∙ e)) (close_free ss)
-item_lacks_round s l (until q f b g) ss e a = let z : ◌≡◌ {A = ℕ} 0 1 = cc in omega arith
+item_lacks_round s l (until q f b g) ss e a = cc
 
-pub item_lacks_close : {text rest r2 : List ℕ} {d e : Draft} → Begins text Open rest → TookRule rest r2 d e
+pub item_lacks_close : {text rest r2 : List ℕ} {d e : Draft} {n : ℕ} → Begins text Open rest → TookRule rest r2 d e n
     → ((ss : List Sign) → signs r2 ≡ Close ∷ ss → ⊥) → LacksItem text
 unfolding spell_formula spell_body
-item_lacks_close s h n one ss e a = let z : ◌≡◌ {A = ℕ} 0 1 = cc in omega arith
-item_lacks_close s h n (letter k) ss e a = let z : ◌≡◌ {A = ℕ} 0 1 = cc in omega arith
-item_lacks_close s h n (not i) ss e a = let z : ◌≡◌ {A = ℕ} 0 1 = cc in omega arith
+item_lacks_close s h n one ss e a = cc
+item_lacks_close s h n (letter k) ss e a = cc
+item_lacks_close s h n (not i) ss e a = cc
 item_lacks_close s h n (round f) ss e a =
     let rest = sym h.splits ∙ tail_same _ _ (sym s.splits ∙ e) in
     n ss (formula_same h.part f _ _ rest h.stops (close_free ss)).1
-item_lacks_close s h n (until q f b g) ss e a = let z : ◌≡◌ {A = ℕ} 0 1 = cc in omega arith
+item_lacks_close s h n (until q f b g) ss e a = cc
 
 pub item_lacks_body : {text rest : List ℕ} {r : Quantifier} → Begins text (Each r) rest → LacksBody rest
     → LacksItem text
 unfolding spell_formula spell_body
-item_lacks_body s l one ss e a = let z : ◌≡◌ {A = ℕ} 0 1 = cc in omega arith
-item_lacks_body s l (letter k) ss e a = let z : ◌≡◌ {A = ℕ} 0 1 = cc in omega arith
-item_lacks_body s l (not i) ss e a = let z : ◌≡◌ {A = ℕ} 0 1 = cc in omega arith
-item_lacks_body s l (round f) ss e a = let z : ◌≡◌ {A = ℕ} 0 1 = cc in omega arith
+item_lacks_body s l one ss e a = cc
+item_lacks_body s l (letter k) ss e a = cc
+item_lacks_body s l (not i) ss e a = cc
+item_lacks_body s l (round f) ss e a = cc
 item_lacks_body s l (until q f b g) ss e a = l (body f b g) ss (tail_same _ _ (sym s.splits ∙ e)) tt
 
 pub item_lacks_other : {text rest : List ℕ} (first : Sign) → Told text first rest → ((n : ℕ) → first ≡ Number n → ⊥)
@@ -366,90 +381,84 @@ item_lacks_other first (t, h, s) n l x p u (round f) ss e a = p (h ∙ ap told (
 item_lacks_other first (t, h, s) n l x p u (until q f b g) ss e a =
     u q (h ∙ ap told (head_same _ _ (sym s.splits ∙ e)))
 
-pub item_one : {text rest : List ℕ} {d e : Draft} → Begins text (Number 1) rest → Pushed d line.One e
-    → TookItem text rest d e
+pub item_one : {text rest : List ℕ} {d e : Draft} {n : ℕ} → Begins text (Number 1) rest → Pushed d line.One e
+    → n ≡ e.count - 1 → TookItem text rest d e n
 unfolding spell_formula tree_formula
-item_one s p =
+item_one s p last =
     record {
       part = one;
       splits = s.splits;
       adds = λ ls w. push_new line.One ls w p refl;
+      last = last;
       stops = tt;
       shorter = s.shorter;
     }
 
-pub item_letter : {text rest : List ℕ} {d e : Draft} (k : ℕ) → Begins text (Letter k) rest → Pushed d (line.Letter k) e
-    → TookItem text rest d e
+pub item_letter : {text rest : List ℕ} {d e : Draft} {n : ℕ} (k : ℕ) → Begins text (Letter k) rest
+    → Pushed d (line.Letter k) e → n ≡ e.count - 1 → TookItem text rest d e n
 unfolding spell_formula tree_formula
-item_letter k s p =
+item_letter k s p last =
     record {
       part = letter k;
       splits = s.splits;
       adds = λ ls w. push_new (line.Letter k) ls w p refl;
+      last = last;
       stops = tt;
       shorter = s.shorter;
     }
 
-pub item_not : {text rest r2 : List ℕ} {d0 d1 d2 : Draft} → Begins text Bang rest → TookItem rest r2 d0 d1
-    → Pushed d1 (line.Not (d1.count - 1)) d2 → TookItem text r2 d0 d2
+pub item_not : {text rest r2 : List ℕ} {d0 d1 d2 : Draft} {i n : ℕ} → Begins text Bang rest → TookItem rest r2 d0 d1 i
+    → Pushed d1 (line.Not i) d2 → n ≡ d2.count - 1 → TookItem text r2 d0 d2 n
 unfolding spell_formula tree_formula
-item_not s h p =
+item_not s h p last =
     record {
       part = not h.part;
       splits = s.splits ∙ ap (λ us. Bang ∷ us) h.splits;
-      adds = λ ls w. push_one line.Not _ _ (h.adds ls w) p refl (λ k. refl);
+      adds = λ ls w. push_one line.Not _ _ (h.adds ls w) p h.last (λ k. refl);
+      last = last;
       stops = tt;
       shorter = omega (arith, s.shorter, h.shorter);
     }
 
-pub item_round : {text rest r2 r3 : List ℕ} {d e : Draft} → Begins text Open rest → TookRule rest r2 d e
-    → Begins r2 Close r3 → TookItem text r3 d e
+pub item_round : {text rest r2 r3 : List ℕ} {d e : Draft} {n : ℕ} → Begins text Open rest → TookRule rest r2 d e n
+    → Begins r2 Close r3 → TookItem text r3 d e n
 unfolding spell_formula tree_formula
 item_round s h z =
     record {
       part = round h.part;
       splits = s.splits ∙ ap (λ us. Open ∷ us) (h.splits ∙ ap (spell_formula h.part) z.splits);
       adds = h.adds;
+      last = h.last;
       stops = tt;
       shorter = omega (arith, s.shorter, h.shorter, z.shorter);
     }
 
-body_in : {text rest : List ℕ} {d e : Draft} (q : Quantifier) (p : Body) (us : List Sign)
+body_in : {text rest : List ℕ} {d e : Draft} {n : ℕ} (q : Quantifier) (p : Body) (us : List Sign)
     → signs text ≡ Each q ∷ spell_body p us → us ≡ signs rest
-    → ((ls : List Line) → Drawn d ls → Drawn e (put (tree_body q p) ls)) → length rest < length text
-    → TookItem text rest d e
+    → ((ls : List Line) → Drawn d ls → Drawn e (put (tree_body q p) ls)) → n ≡ e.count - 1 → length rest < length text
+    → TookItem text rest d e n
 unfolding spell_formula tree_formula spell_body tree_body
-body_in q (body f b g) us e u m lt =
+body_in q (body f b g) us e u m last lt =
     record {
       part = until q f b g;
       splits = e ∙ ap (spell_item (until q f b g)) u;
       adds = m;
+      last = last;
       stops = tt;
       shorter = lt;
     }
 
-item_body : {text rest r2 : List ℕ} {d e : Draft} (q : Quantifier) → Begins text (Each q) rest → TookBody q rest r2 d e
-    → TookItem text r2 d e
+item_body : {text rest r2 : List ℕ} {d e : Draft} {n : ℕ} (q : Quantifier) → Begins text (Each q) rest
+    → TookBody q rest r2 d e n → TookItem text r2 d e n
 item_body q s h =
-    body_in q h.part _ (s.splits ∙ ap (λ us. Each q ∷ us) h.splits) refl h.adds
+    body_in q h.part _ (s.splits ∙ ap (λ us. Each q ∷ us) h.splits) refl h.adds h.last
     (omega (arith, s.shorter, h.shorter))
 
-pub item_by_body : {text rest : List ℕ} (d e : Draft) (q : Quantifier) (r : Option (Bor (List ℕ)))
-    → Begins text (Each q) rest → ReadsBody q rest d e r → ReadsItem text d e r
-item_by_body d e q (option.Some x) s h = item_body q s h
-item_by_body d e q option.None s h = item_lacks_body s h
-
-pub item_by_close : {text rest r2 : List ℕ} {d e : Draft} (r : Option (Bor (List ℕ))) → Begins text Open rest
-    → TookRule rest r2 d e → After r2 Close r → ReadsItem text d e r
-item_by_close (option.Some x) s h z = item_round s h (exactly refl tt z)
-item_by_close option.None s h n = item_lacks_close s h (λ ss x. n Close ss x refl)
-
-pub limit_none : (text : List ℕ) → ((ss : List Sign) → signs text ≡ Until ∷ ss → ⊥)
-    → ((ss : List Sign) → signs text ≡ UntilAtMost ∷ ss → ⊥) → ((ss : List Sign) → signs text ≡ UntilAtLeast ∷ ss → ⊥)
-    → (b : Limit) (ss : List Sign) → signs text ≡ spell_limit b ss → ⊥
-limit_none text x y z plain ss e = x ss e
-limit_none text x y z (at_most n) ss e = y (Number n ∷ ss) e
-limit_none text x y z (at_least n) ss e = z (Number n ∷ ss) e
+pub item_by_body : (before after : Reader) (rest : Bor (List ℕ)) (q : Quantifier) (r : Option ℕ)
+    → Begins before.rest.now (Each q) rest.now → ReadsBody q (record before { rest = rest }) after r
+    → ReadsItem before after r
+item_by_body before after rest q (option.Some n) s h = item_body q s h
+item_by_body before after rest q option.None s h = item_lacks_body s h
 
 pub limit_most : {text r1 r2 : List ℕ} {b n : ℕ} → Begins text UntilAtMost r1 → b ≡ cap n → Begins r1 (Number n) r2
     → TookLimit text (AtMost b) r2
@@ -471,9 +480,8 @@ limit_least {n = n} s e h =
       shorter = omega (arith, s.shorter, h.shorter);
     }
 
-pub trailing : {text rest r2 : List ℕ} {d e : Draft} {s : Sign} → TookRule text rest d e → Begins rest s r2
+pub trailing : {text rest r2 : List ℕ} {d e : Draft} {n : ℕ} {s : Sign} → TookRule text rest d e n → Begins rest s r2
     → (f : Formula) → signs text ≡ spell_formula f [] → ⊥
 trailing h z f e =
     let n = (formula_same h.part f _ _ (sym h.splits ∙ e) h.stops (tt, tt)).1 in
-    let x : ◌≡◌ {A = ℕ} 0 1 = cc (n, z.splits) in
-    omega arith
+    cc (n, z.splits)

@@ -1,5 +1,5 @@
 -- A text has at most one reading.
-use Rattle.std.proofs.Common.{◌≡◌, ℕ, List, ◌∷◌, sym, refl, subst, arith}
+use Rattle.std.proofs.Common.{◌≡◌, List, ◌∷◌, sym, refl, subst}
 use Rattle.signs.specs.declared.Sign.{Sign}
 use Rattle.signs.specs.declared.Sign.TheVariants.{Close, CloseSquare, Amp, Bar}
 use Rattle.reader.specs.Parts.{Limit, plain, at_most, at_least, Formula, Terms, Term, Items, Item, terms, no_term, bar}
@@ -13,37 +13,37 @@ Same p q ss us = (p ≡ q) × (ss ≡ us)
 -- after a limit something else stands
 pub limit_free : (b : Limit) (ss : List Sign) → NoJoint (spell_limit b ss)
 limit_free plain ss =
-    (λ e. let z : ◌≡◌ {A = ℕ} 0 1 = cc in omega arith, λ e. let z : ◌≡◌ {A = ℕ} 0 1 = cc in omega arith)
+    (λ e. cc, λ e. cc)
 limit_free (at_most n) ss =
-    (λ e. let z : ◌≡◌ {A = ℕ} 0 1 = cc in omega arith, λ e. let z : ◌≡◌ {A = ℕ} 0 1 = cc in omega arith)
+    (λ e. cc, λ e. cc)
 limit_free (at_least n) ss =
-    (λ e. let z : ◌≡◌ {A = ℕ} 0 1 = cc in omega arith, λ e. let z : ◌≡◌ {A = ℕ} 0 1 = cc in omega arith)
+    (λ e. cc, λ e. cc)
 
 pub limit_same : (b d : Limit) (ss us : List Sign) → spell_limit b ss ≡ spell_limit d us → Same b d ss us
 limit_same plain plain ss us e = (refl, cc)
-limit_same plain (at_most n) ss us e = let z : ◌≡◌ {A = ℕ} 0 1 = cc in absurd (omega arith)
-limit_same plain (at_least n) ss us e = let z : ◌≡◌ {A = ℕ} 0 1 = cc in absurd (omega arith)
-limit_same (at_most m) plain ss us e = let z : ◌≡◌ {A = ℕ} 0 1 = cc in absurd (omega arith)
+limit_same plain (at_most n) ss us e = cc
+limit_same plain (at_least n) ss us e = cc
+limit_same (at_most m) plain ss us e = cc
 limit_same (at_most m) (at_most n) ss us e = (cc, cc)
-limit_same (at_most m) (at_least n) ss us e = let z : ◌≡◌ {A = ℕ} 0 1 = cc in absurd (omega arith)
-limit_same (at_least m) plain ss us e = let z : ◌≡◌ {A = ℕ} 0 1 = cc in absurd (omega arith)
-limit_same (at_least m) (at_most n) ss us e = let z : ◌≡◌ {A = ℕ} 0 1 = cc in absurd (omega arith)
+limit_same (at_most m) (at_least n) ss us e = cc
+limit_same (at_least m) plain ss us e = cc
+limit_same (at_least m) (at_most n) ss us e = cc
 limit_same (at_least m) (at_least n) ss us e = (cc, cc)
 
 -- terms end before no &
 pub terms_free : (ts : Terms) (ss : List Sign) → NoAmp ss → NoAmp (spell_terms ts ss)
 unfolding spell_terms
 terms_free no_term ss p = p
-terms_free (bar t ts) ss p = λ e. let z : ◌≡◌ {A = ℕ} 0 1 = cc in omega arith
+terms_free (bar t ts) ss p = λ e. cc
 
 pub barred : {P : Type 0} (s : Sign) (ss us : List Sign) → ss ≡ s ∷ us → Without s ss → P
 barred s ss us e p = absurd (subst (Without s) e p refl)
 
 pub close_free : (ss : List Sign) → NoJoint (Close ∷ ss)
-close_free ss = (λ e. let z : ◌≡◌ {A = ℕ} 0 1 = cc in omega arith, λ e. let z : ◌≡◌ {A = ℕ} 0 1 = cc in omega arith)
+close_free ss = (λ e. cc, λ e. cc)
 
 pub square_free : (ss : List Sign) → NoJoint (CloseSquare ∷ ss)
-square_free ss = (λ e. let z : ◌≡◌ {A = ℕ} 0 1 = cc in omega arith, λ e. let z : ◌≡◌ {A = ℕ} 0 1 = cc in omega arith)
+square_free ss = (λ e. cc, λ e. cc)
 
 mutual
   unfolding spell_formula
@@ -88,35 +88,35 @@ mutual
 
   pub item_same : (i j : Item) (ss us : List Sign) → spell_item i ss ≡ spell_item j us → Same i j ss us
   item_same one one ss us e = (refl, cc)
-  item_same one (letter m) ss us e = let z : ◌≡◌ {A = ℕ} 0 1 = cc in absurd (omega arith)
-  item_same one (not j) ss us e = let z : ◌≡◌ {A = ℕ} 0 1 = cc in absurd (omega arith)
-  item_same one (round h) ss us e = let z : ◌≡◌ {A = ℕ} 0 1 = cc in absurd (omega arith)
-  item_same one (until r h d l) ss us e = let z : ◌≡◌ {A = ℕ} 0 1 = cc in absurd (omega arith)
-  item_same (letter k) one ss us e = let z : ◌≡◌ {A = ℕ} 0 1 = cc in absurd (omega arith)
+  item_same one (letter m) ss us e = cc
+  item_same one (not j) ss us e = cc
+  item_same one (round h) ss us e = cc
+  item_same one (until r h d l) ss us e = cc
+  item_same (letter k) one ss us e = cc
   item_same (letter k) (letter m) ss us e = (cc, cc)
-  item_same (letter k) (not j) ss us e = let z : ◌≡◌ {A = ℕ} 0 1 = cc in absurd (omega arith)
-  item_same (letter k) (round h) ss us e = let z : ◌≡◌ {A = ℕ} 0 1 = cc in absurd (omega arith)
-  item_same (letter k) (until r h d l) ss us e = let z : ◌≡◌ {A = ℕ} 0 1 = cc in absurd (omega arith)
-  item_same (not i) one ss us e = let z : ◌≡◌ {A = ℕ} 0 1 = cc in absurd (omega arith)
-  item_same (not i) (letter m) ss us e = let z : ◌≡◌ {A = ℕ} 0 1 = cc in absurd (omega arith)
+  item_same (letter k) (not j) ss us e = cc
+  item_same (letter k) (round h) ss us e = cc
+  item_same (letter k) (until r h d l) ss us e = cc
+  item_same (not i) one ss us e = cc
+  item_same (not i) (letter m) ss us e = cc
   item_same (not i) (not j) ss us e =
       let n : spell_item i ss ≡ spell_item j us = cc in
       let a = item_same i j ss us n in
       (cc a.0, a.1)
-  item_same (not i) (round h) ss us e = let z : ◌≡◌ {A = ℕ} 0 1 = cc in absurd (omega arith)
-  item_same (not i) (until r h d l) ss us e = let z : ◌≡◌ {A = ℕ} 0 1 = cc in absurd (omega arith)
-  item_same (round f) one ss us e = let z : ◌≡◌ {A = ℕ} 0 1 = cc in absurd (omega arith)
-  item_same (round f) (letter m) ss us e = let z : ◌≡◌ {A = ℕ} 0 1 = cc in absurd (omega arith)
-  item_same (round f) (not j) ss us e = let z : ◌≡◌ {A = ℕ} 0 1 = cc in absurd (omega arith)
+  item_same (not i) (round h) ss us e = cc
+  item_same (not i) (until r h d l) ss us e = cc
+  item_same (round f) one ss us e = cc
+  item_same (round f) (letter m) ss us e = cc
+  item_same (round f) (not j) ss us e = cc
   item_same (round f) (round h) ss us e =
       let n : spell_formula f (Close ∷ ss) ≡ spell_formula h (Close ∷ us) = cc in
       let a = formula_same f h (Close ∷ ss) (Close ∷ us) n (close_free ss) (close_free us) in
       (cc a.0, cc a.1)
-  item_same (round f) (until r h d l) ss us e = let z : ◌≡◌ {A = ℕ} 0 1 = cc in absurd (omega arith)
-  item_same (until q f b g) one ss us e = let z : ◌≡◌ {A = ℕ} 0 1 = cc in absurd (omega arith)
-  item_same (until q f b g) (letter m) ss us e = let z : ◌≡◌ {A = ℕ} 0 1 = cc in absurd (omega arith)
-  item_same (until q f b g) (not j) ss us e = let z : ◌≡◌ {A = ℕ} 0 1 = cc in absurd (omega arith)
-  item_same (until q f b g) (round h) ss us e = let z : ◌≡◌ {A = ℕ} 0 1 = cc in absurd (omega arith)
+  item_same (round f) (until r h d l) ss us e = cc
+  item_same (until q f b g) one ss us e = cc
+  item_same (until q f b g) (letter m) ss us e = cc
+  item_same (until q f b g) (not j) ss us e = cc
+  item_same (until q f b g) (round h) ss us e = cc
   item_same (until q f b g) (until r h d l) ss us e =
       let fs = spell_limit b (spell_formula g (CloseSquare ∷ ss)) in
       let hs = spell_limit d (spell_formula l (CloseSquare ∷ us)) in

@@ -1,8 +1,8 @@
 -- What the reader answers.
-use Rattle.std.specs.Prelude.{◌≡◌, ℕ, ◌<◌, ◌≤◌, List, length, take, Ok, Err, Result}
+use Rattle.std.specs.Prelude.{◌≡◌, ℕ, ◌<◌, ◌≤◌, List, ◌++◌, length, take, codes, decimal, Ok, Err, Result}
 use Rattle.tctl.specs.Rules as tree
 use Rattle.rules.specs.declared.rule.Rule.{Rule}
-use Rattle.rules.specs.Lines.{most_lines}
+use Rattle.rules.specs.Lines.{most_lines, largest_number}
 use Rattle.rules.specs.Postorder.{lines_of, Small, Large}
 use Rattle.reader.specs.declared.ReadFault.{ReadFault}
 use Rattle.reader.specs.declared.ReadFault.TheVariants.{TooLong, NotARule, NumberTooLarge, TooManyLines}
@@ -18,13 +18,20 @@ fault_number NotARule = 9
 fault_number NumberTooLarge = 10
 fault_number TooManyLines = 11
 
+abbrev pub fault_text : ReadFault → List ℕ
+fault_text TooLong = codes "the text has more than " ++ (decimal longest ++ codes " bytes")
+fault_text NotARule = codes "the text is no rule"
+fault_text NumberTooLarge = codes "a number is above " ++ decimal largest_number
+fault_text TooManyLines = codes "the rule has more than " ++ (decimal most_lines ++ codes " lines")
+
 -- The text is refused: the first fault that fits.
 abbrev pub Refused : List ℕ → ReadFault → Type 0
 Refused text TooLong = longest < length text
 Refused text NotARule = (length text ≤ longest) × ((f : tree.Rule) → Reading text f → ⊥)
 Refused text NumberTooLarge = (length text ≤ longest) × ((f : tree.Rule) × Reading text f × Large (lines_of f))
 Refused text TooManyLines =
-    (length text ≤ longest) × ((f : tree.Rule) × Reading text f × Small (lines_of f) × (most_lines < length (lines_of f)))
+    (length text ≤ longest)
+    × ((f : tree.Rule) × Reading text f × Small (lines_of f) × (most_lines < length (lines_of f)))
 
 -- The text is read as a rule that has these lines.
 pub record Accepted (text : List ℕ) (r : Rule) : Type 0 where

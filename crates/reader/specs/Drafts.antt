@@ -1,10 +1,7 @@
 -- What a draft stands for: lines without limit, of which it keeps the first 32.
-use Rattle.std.specs.Prelude.{◌≡◌, ℕ, ◌+◌, ◌-◌, ◌<◌, ◌≤◌, min, true, cond, List, length, take, MatchBool, nat_lt}
+use Rattle.std.specs.Prelude.{◌≡◌, ◌+◌, ◌<◌, ◌≤◌, min, true, cond, List, length, take, MatchBool, nat_lt}
 use Rattle.std.specs.Prelude.{slice_set}
-use Rattle.rules.specs.declared.line.Bound.{Bound}
 use Rattle.rules.specs.declared.line.Line.{Line}
-use Rattle.rules.specs.declared.line.Line.TheVariants.{Until}
-use Rattle.rules.specs.declared.line.Quantifier.{Quantifier}
 use Rattle.rules.specs.Lines.{most_lines, largest_number}
 use Rattle.rules.specs.Postorder.{line_number, Small, Large}
 use Rattle.reader.specs.declared.draft.Draft.{Draft}
@@ -20,7 +17,3 @@ pub record Pushed (d : Draft) (l : Line) (e : Draft) : Type 0 where
   pub counted : e.count ≡ min (d.count + 1) 33
   pub noted : e.large ≡ cond (nat_lt largest_number (line_number l)) true d.large
   pub kept : d.count < most_lines → e.lines ≡ slice_set d.lines d.count l
-
--- An until is noted whose right part is the last line.
-abbrev pub PushedUntil : Draft → Quantifier → ℕ → Bound → Draft → Type 0
-PushedUntil d q left b e = Pushed d (Until q left b (d.count - 1)) e

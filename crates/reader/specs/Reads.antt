@@ -1,5 +1,5 @@
 -- What the readers promise.
-use Rattle.std.specs.Prelude.{◌≡◌, ℕ, ◌<◌, Bool, cond, List, [], ◌∷◌, length, MatchBool, Option, ◌≢◌}
+use Rattle.std.specs.Prelude.{◌≡◌, ℕ, ◌-◌, ◌<◌, Bool, List, [], ◌∷◌, length, MatchBool, Option, ◌≢◌}
 use Rattle.std.specs.Borrow.{Bor}
 use Rattle.std.specs.declared.option.Option.TheVariants as option
 use Rattle.tctl.specs.Rules.{Rule}
@@ -7,15 +7,15 @@ use Rattle.rules.specs.declared.line.Bound.{Bound}
 use Rattle.rules.specs.declared.line.Bound.TheVariants.{AtMost, AtLeast}
 use Rattle.rules.specs.declared.line.Line.{Line}
 use Rattle.rules.specs.declared.line.Quantifier.{Quantifier}
-use Rattle.rules.specs.Postorder.{put}
+use Rattle.rules.specs.Postorder.{put, lines_of}
 use Rattle.signs.specs.declared.Sign.{Sign}
 use Rattle.signs.specs.declared.Sign.TheVariants.{Amp, Bar}
 use Rattle.signs.specs.Signs.{signs, cap}
 use Rattle.signs.specs.First.{Begins}
-use Rattle.reader.specs.declared.ReadFault.{ReadFault}
-use Rattle.reader.specs.declared.ReadFault.TheVariants.{NotARule, NumberTooLarge, TooManyLines}
 use Rattle.reader.specs.declared.draft.Draft.{Draft}
+use Rattle.reader.specs.declared.parts.Reader.{Reader}
 use Rattle.reader.specs.Drafts.{Drawn}
+use Rattle.reader.specs.Grammar.{Reading}
 use Rattle.reader.specs.Parts.{Limit, spell_limit, bound_of, spell_formula, spell_term, spell_item, spell_body}
 use Rattle.reader.specs.Parts.{tree_formula, tree_term, tree_item, tree_body}
 
@@ -33,12 +33,14 @@ NoAmp ss = Without Amp ss
 abbrev pub NoJoint : List Sign → Type 0
 NoJoint ss = Without Amp ss × Without Bar ss
 
--- the text is a part of the grammar, written out by spell, and then rest; the lines of its tree are noted
+-- the text is a part of the grammar, written out by spell, and then rest; the lines of its tree are noted, the last of
+-- them under the number
 pub record Took {F : Type 0} (spell : F → List Sign → List Sign) (tree : F → Rule) (Stop : List Sign → Type 0)
-    (text rest : List ℕ) (before after : Draft) : Type 0 where
+    (text rest : List ℕ) (before after : Draft) (number : ℕ) : Type 0 where
   pub part : F
   pub splits : signs text ≡ spell part (signs rest)
   pub adds : (ls : List Line) → Drawn before ls → Drawn after (put (tree part) ls)
+  pub last : number ≡ after.count - 1
   pub stops : Stop (signs rest)
   pub shorter : length rest < length text
 
@@ -46,24 +48,25 @@ pub record Took {F : Type 0} (spell : F → List Sign → List Sign) (tree : F �
 abbrev pub Lacks : {F : Type 0} → (F → List Sign → List Sign) → (List Sign → Type 0) → List ℕ → Type 0
 Lacks {F} spell Stop text = (p : F) (ss : List Sign) → signs text ≡ spell p ss → Stop ss → ⊥
 
-abbrev pub Reads : {F : Type 0} → (F → List Sign → List Sign) → (F → Rule) → (List Sign → Type 0) → List ℕ → Draft
-    → Draft → Option (Bor (List ℕ)) → Type 0
-Reads spell tree Stop text before after (option.Some rest) = Took spell tree Stop text rest.now before after
-Reads spell tree Stop text before after option.None = Lacks spell Stop text
+abbrev pub Reads : {F : Type 0} → (F → List Sign → List Sign) → (F → Rule) → (List Sign → Type 0) → Reader → Reader
+    → Option ℕ → Type 0
+Reads spell tree Stop before after (option.Some number) =
+    Took spell tree Stop before.rest.now after.rest.now before.draft after.draft number
+Reads spell tree Stop before after option.None = Lacks spell Stop before.rest.now
 
 -- a rule is read up to what is neither | nor &, a term up to what is no &
-abbrev pub ReadsRule : List ℕ → Draft → Draft → Option (Bor (List ℕ)) → Type 0
-ReadsRule text before after r = Reads spell_formula tree_formula NoJoint text before after r
+abbrev pub ReadsRule : Reader → Reader → Option ℕ → Type 0
+ReadsRule before after r = Reads spell_formula tree_formula NoJoint before after r
 
-abbrev pub ReadsTerm : List ℕ → Draft → Draft → Option (Bor (List ℕ)) → Type 0
-ReadsTerm text before after r = Reads spell_term tree_term NoAmp text before after r
+abbrev pub ReadsTerm : Reader → Reader → Option ℕ → Type 0
+ReadsTerm before after r = Reads spell_term tree_term NoAmp before after r
 
-abbrev pub ReadsItem : List ℕ → Draft → Draft → Option (Bor (List ℕ)) → Type 0
-ReadsItem text before after r = Reads spell_item tree_item Anything text before after r
+abbrev pub ReadsItem : Reader → Reader → Option ℕ → Type 0
+ReadsItem before after r = Reads spell_item tree_item Anything before after r
 
 -- what stands after E or A
-abbrev pub ReadsBody : Quantifier → List ℕ → Draft → Draft → Option (Bor (List ℕ)) → Type 0
-ReadsBody q text before after r = Reads spell_body (tree_body q) Anything text before after r
+abbrev pub ReadsBody : Quantifier → Reader → Reader → Option ℕ → Type 0
+ReadsBody q before after r = Reads spell_body (tree_body q) Anything before after r
 
 -- a bound as the code tells it
 abbrev pub told_bound : Bound → Bound
@@ -84,8 +87,12 @@ Limits text option.None = (b : Limit) (ss : List Sign) → signs text ≢ spell_
 abbrev pub Ends : List ℕ → Bool → Type 0
 Ends text r = MatchBool r (signs text ≡ []) ((s : Sign) × (rest : List ℕ) × Begins text s rest)
 
--- the first fault that fits a text that begins with a rule: signs are left, a number is too large, lines are too many
-abbrev pub first_fault : Bool → Bool → Bool → Option ReadFault
-first_fault ended large crowded =
-    cond ended (cond large (option.Some NumberTooLarge) (cond crowded (option.Some TooManyLines) option.None))
-    (option.Some NotARule)
+-- the text is read as a rule, whose lines the draft stands for
+pub record Drafted (text : List ℕ) (d : Draft) : Type 0 where
+  pub rule : Rule
+  pub reading : Reading text rule
+  pub drawn : Drawn d (lines_of rule)
+
+abbrev pub DraftOf : List ℕ → Option Draft → Type 0
+DraftOf text (option.Some d) = Drafted text d
+DraftOf text option.None = (f : Rule) → Reading text f → ⊥

@@ -3,27 +3,32 @@
 
 #![tactic(auto)]
 
-ghost use Rattle.std.specs.Prelude.{◌≡◌};
-ghost use Rattle.reader.specs.Reads.{Ends, first_fault};
-ghost use Rattle.reader.specs.Answer.{fault_number, Answers, OneReading, OneAnswer};
+ghost use Rattle.std.specs.Prelude.{◌≡◌, Some};
+ghost use Rattle.reader.specs.Reads.{Ends, DraftOf};
+ghost use Rattle.reader.specs.Answer.{fault_number, fault_text, Answers, OneReading, OneAnswer};
 
 mod draft;
-mod noting;
 mod parts;
 
 use crate::draft::Draft;
-use rules::rule::Rule;
-use signs::next_sign;
+use crate::parts::Reader;
+use rules::rule::{MOST_LINES, Rule};
+use signs::{LARGEST, next_sign};
+use std::error::Error;
+use std::fmt;
 
-// Why a text is refused.
-#[derive(Clone, Copy, Debug, PartialEq)]
+// The most bytes of a text.
+pub const LONGEST: usize = 512;
+
+// Why a text is refused, with the number of the refusal.
+#[derive(Clone, Copy, Debug, PartialEq, Eq, Hash)]
 pub enum ReadFault {
     // more than LONGEST bytes
-    TooLong,
-    NotARule,
+    TooLong = 8,
+    NotARule = 9,
     // a number above the largest
-    NumberTooLarge,
-    TooManyLines,
+    NumberTooLarge = 10,
+    TooManyLines = 11,
 }
 
 impl ReadFault {
@@ -31,41 +36,42 @@ impl ReadFault {
     pub fn number(self) -> u8
         ensures { result ≡ fault_number self }
     {
+        self as u8
+    }
+}
+
+impl fmt::Display for ReadFault {
+    ghost output = { λ e. Some (fault_text e) };
+
+    fn fmt<W: fmt::Write>(&self, f: &mut fmt::Formatter<W>) -> fmt::Result {
         match self {
-            ReadFault::TooLong => 8,
-            ReadFault::NotARule => 9,
-            ReadFault::NumberTooLarge => 10,
-            ReadFault::TooManyLines => 11,
+            ReadFault::TooLong => write!(f, "the text has more than {LONGEST} bytes"),
+            ReadFault::NotARule => write!(f, "the text is no rule"),
+            ReadFault::NumberTooLarge => write!(f, "a number is above {LARGEST}"),
+            ReadFault::TooManyLines => write!(f, "the rule has more than {MOST_LINES} lines"),
         }
     }
 }
 
-// The most bytes of a text.
-pub const LONGEST: usize = 512;
+impl Error for ReadFault {}
 
 // No sign is left.
 fn ends(text: &[u8]) -> bool
     ensures { Ends text.now result }
 {
-    match next_sign(text) {
-        Some((_, _)) => false,
-        None => true,
-    }
+    next_sign(text).is_none()
 }
 
-// The first fault that fits a text that begins with a rule.
-fn first_fault(ended: bool, large: bool, crowded: bool) -> Option<ReadFault>
-    ensures { result ≡ first_fault ended large crowded }
+// The lines of a text that is a rule up to its end.
+fn draft_of(text: &[u8]) -> Option<Draft>
+    ensures { DraftOf text.now result }
 {
-    if !ended {
-        Some(ReadFault::NotARule)
-    } else if large {
-        Some(ReadFault::NumberTooLarge)
-    } else if crowded {
-        Some(ReadFault::TooManyLines)
-    } else {
-        None
-    }
+    let mut reader = Reader {
+        rest: text,
+        draft: Draft::new(),
+    };
+    reader.read_rule()?;
+    ends(reader.rest).then_some(reader.draft)
 }
 
 // Reads a rule, or says why the text is refused: the first fault that fits, in the order of their numbers.
@@ -75,17 +81,18 @@ pub fn read(text: &[u8]) -> Result<Rule, ReadFault>
     if text.len() > LONGEST {
         return Err(ReadFault::TooLong);
     }
-    let mut draft = Draft::new();
-    let Some(rest) = parts::read_rule(text, &mut draft) else {
-        return Err(ReadFault::NotARule);
-    };
-    match first_fault(ends(rest), draft.large, draft.crowded()) {
-        Some(fault) => Err(fault),
-        None => Ok(Rule {
-            lines: draft.lines,
-            count: draft.count,
-        }),
+    let Draft {
+        lines,
+        count,
+        large,
+    } = draft_of(text).ok_or(ReadFault::NotARule)?;
+    if large {
+        return Err(ReadFault::NumberTooLarge);
     }
+    if count > MOST_LINES {
+        return Err(ReadFault::TooManyLines);
+    }
+    Ok(Rule { lines, count })
 }
 
 // A text has at most one reading.

@@ -64,7 +64,8 @@ goes_one make grow f ls h from =
 
 -- one line more, after those of two parts
 goes_two : (make : ℕ → ℕ → Line) (grow : Rule → Rule → Rule) (f g : Rule) (ls : List Line) → Goes f ls
-    → Goes g (put f ls) → ((rs : List Rule) (i j : ℕ) → rule_from rs (make i j) ≡ grow (get_or rs i one) (get_or rs j one))
+    → Goes g (put f ls)
+    → ((rs : List Rule) (i j : ℕ) → rule_from rs (make i j) ≡ grow (get_or rs i one) (get_or rs j one))
     → rules_of [] (after_two make (put f ls) (put g (put f ls)))
     ≡ rules_of [] ls ++ (parts_of f ++ parts_of g ++ (grow f g ∷ []))
 goes_two make grow f g ls h k from =
@@ -93,7 +94,8 @@ put_goes (some_run f b g) ls =
     (put_goes g (put f ls))
     (λ rs i j. some_back b (get_or rs i one) (get_or rs j one))
 put_goes (each_run f b g) ls =
-    goes_two (λ i j. Until All i (bound_line b) j) (λ x y. each_run x b y) f g ls (put_goes f ls) (put_goes g (put f ls))
+    goes_two (λ i j. Until All i (bound_line b) j) (λ x y. each_run x b y) f g ls (put_goes f ls)
+    (put_goes g (put f ls))
     (λ rs i j. each_back b (get_or rs i one) (get_or rs j one))
 
 pub lines_stand_lem : LinesStand

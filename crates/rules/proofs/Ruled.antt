@@ -43,8 +43,8 @@ rules_next (l ∷ ls) rs zero m h e w =
     let z : length rs ≡ m = omega arith in
     rules_kept ls (rs ++ (rule_from rs l ∷ [])) m (omega arith) ∙ get_or_push rs (rule_from rs l) one m z
     ∙ rule_same m l w rs (rules_of (rs ++ (rule_from rs l ∷ [])) ls)
-    (λ j b. sym (rules_kept ls (rs ++ (rule_from rs l ∷ [])) j (omega arith) ∙ get_or_append_left rs (rule_from rs l ∷ [])
-    one j (omega arith)))
+    (λ j b. sym (rules_kept ls (rs ++ (rule_from rs l ∷ [])) j (omega arith)
+    ∙ get_or_append_left rs (rule_from rs l ∷ []) one j (omega arith)))
 rules_next (l ∷ ls) rs (suc k) m h e w =
     let n = length_push rs (rule_from rs l) in
     rules_next ls (rs ++ (rule_from rs l ∷ [])) k m (omega arith) (omega arith) w

@@ -1,2 +1,4 @@
 pub mod Lines
 pub mod Postorder
+pub mod Notation
+pub mod Once

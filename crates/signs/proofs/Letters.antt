@@ -51,7 +51,8 @@ fair_after : (k : ℕ) (text : List ℕ) → AllByRecursion Fair (signs_after k 
 unfolding signs_after
 fair_after k [] = elim k as (λ n. AllByRecursion Fair (signs_after n [])) [ zero ↦ tt | suc n ↦ tt ]
 fair_after zero (b ∷ bs) =
-    by_cond (AllByRecursion Fair) (eqb b 32) _ _ (λ _. fair_after zero bs) (λ _. (sign_fair b bs, fair_after (more b bs) bs))
+    by_cond (AllByRecursion Fair) (eqb b 32) _ _ (λ _. fair_after zero bs)
+    (λ _. (sign_fair b bs, fair_after (more b bs) bs))
 fair_after (suc k) (b ∷ bs) = fair_after k bs
 
 pub signs_fair : (text : List ℕ) → AllByRecursion Fair (signs text)

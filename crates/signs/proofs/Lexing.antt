@@ -1,5 +1,5 @@
 -- How the bytes of a text become signs.
-use Rattle.std.proofs.Common.{◌≡◌, ℕ, zero, suc, ◌+◌, ◌-◌, ◌*◌, ◌<◌, ◌≤◌, Bool, true, false, cond, eqb, leb, List, []}
+use Rattle.std.proofs.Common.{◌≡◌, ℕ, zero, suc, ◌+◌, ◌-◌, ◌*◌, ◌≤◌, Bool, true, false, cond, eqb, leb, List, []}
 use Rattle.std.proofs.Common.{◌∷◌, length, get_or, take, drop, sym, refl, ap, ◌∙◌, subst, arith, length-drop, eq-eqb}
 use Rattle.std.proofs.Common.{ne_eqb, eqb-true, le-leb, leb-true}
 use Rattle.std.proofs.lemmas.List.{take_rest}
@@ -51,15 +51,6 @@ pub run_more : (text : List ℕ) → 1 ≤ length text → 48 ≤ get_or text 0 
 run_more [] p l h = absurd (omega arith)
 run_more (b ∷ bs) p l h = let d : digit b ≡ true = digit_yes b l h in rw d
 
-pub no_digit : (v : ℕ) (text : List ℕ) → (1 ≤ length text → 48 ≤ get_or text 0 0 → get_or text 0 0 ≤ 57 → ⊥)
-    → (value v text ≡ v) × (run text ≡ 0)
-no_digit v [] n = (refl, refl)
-no_digit v (b ∷ bs) n = let d : digit b ≡ false = digit_no b (n (omega arith)) in (rw d, rw d)
-
-pub some_digit : (text : List ℕ) → 1 ≤ length text → 48 ≤ get_or text 0 0 → get_or text 0 0 ≤ 57 → 0 < run text
-some_digit [] l p q = absurd (omega arith)
-some_digit (b ∷ bs) l p q = let d : digit b ≡ true = digit_yes b p q in rw d (omega arith)
-
 -- the first sign of a text
 
 signs_drop : (k : ℕ) (bs : List ℕ) → signs_after k bs ≡ signs (drop k bs)
@@ -79,28 +70,23 @@ unfolding signs_after
 space_byte [] p e = absurd (omega arith)
 space_byte (b ∷ bs) p e = let h : eqb b 32 ≡ true = eq-eqb b 32 e in ap signs (take_rest (b ∷ bs) 1) ∙ rw h
 
-pub empty_signs : (text : List ℕ) → length text < 1 → signs text ≡ []
+pub empty_signs : (text : List ℕ) → length text ≡ 0 → signs text ≡ []
 unfolding signs_after
 empty_signs [] l = refl
 empty_signs (b ∷ bs) l = absurd (omega arith)
 
-begins : {t0 rest : List ℕ} (text : List ℕ) → Skipped t0 text → 1 ≤ length text
-    → rest ≡ drop (more (get_or text 0 0) (drop 1 text)) (drop 1 text)
-    → Begins t0 (sign (get_or text 0 0) (drop 1 text)) rest
-begins [] k p r = absurd (omega arith)
-begins (b ∷ bs) k p r =
+begins : {t0 bs rest : List ℕ} {b : ℕ} → Skipped t0 (b ∷ bs) → rest ≡ drop (more b bs) bs → Begins t0 (sign b bs) rest
+begins {bs = bs} {b = b} k r =
     record {
       splits = sym k.same ∙ first_byte b bs k.stops ∙ ap (λ us. sign b bs ∷ signs us) (sym r);
       shorter = omega (arith, ap length r, length-drop (more b bs) bs, k.shorter);
     }
 
--- the sign that begins with the first byte b of what is left after the spaces, and what follows it
-pub taken : {t0 text rest : List ℕ} {s : Sign} (b : ℕ) → Skipped t0 text → 1 ≤ length text → get_or text 0 0 ≡ b
-    → Takes b (take (length text - 1) (drop 1 text)) s rest → Told t0 s rest
-taken {t0} {text} {rest} {s} b k p e h =
-    let t = subst (λ bs. Takes b bs s rest) (take_rest text 1) h in
-    let u = subst (λ c. Takes c (drop 1 text) s rest) (sym e) t in
-    (sign (get_or text 0 0) (drop 1 text), u.first, begins text k p u.left)
+-- the sign that begins with the first byte, which is x, of what is left after the spaces, and what follows it
+pub taken : {t0 bs rest : List ℕ} {s : Sign} {b x : ℕ} → Skipped t0 (b ∷ bs) → b ≡ x → Takes x bs s rest
+    → Told t0 s rest
+taken {bs = bs} {rest = rest} {s = s} {b = b} k e h =
+    let t = subst (λ c. Takes c bs s rest) (sym e) h in (sign b bs, t.first, begins k t.left)
 
 pub takes : {b : ℕ} {bs rest : List ℕ} {s : Sign} (t : Sign) (m : ℕ) → (sign b bs ≡ t) × (more b bs ≡ m) → s ≡ told t
     → rest ≡ drop m bs → Takes b bs s rest
@@ -165,17 +151,18 @@ number_begins b bs p q =
     let d : digit b ≡ true = digit_yes b (omega arith) q in
     (rw (e85, e48, d), rw (e85, e48, d))
 
-pub number_found : {t0 rest : List ℕ} (text : List ℕ) (n : ℕ) → Skipped t0 text → 1 ≤ length text → 49 ≤ get_or text 0 0
-    → get_or text 0 0 ≤ 57 → n ≡ cap (value 0 text) → rest ≡ drop (run text) text → Told t0 (Number n) rest
-number_found [] n k p low high v r = absurd (omega arith)
-number_found (b ∷ bs) n k p low high v r =
+pub number_found : {t0 bs rest : List ℕ} {b : ℕ} (n : ℕ) → Skipped t0 (b ∷ bs) → 49 ≤ b → b ≤ 57
+    → n ≡ cap (value 0 (b ∷ bs)) → rest ≡ drop (run (b ∷ bs)) (b ∷ bs) → Told t0 (Number n) rest
+number_found {bs = bs} {b = b} n k low high v r =
     let x = number_begins b bs low high in
-    let m = r ∙ sym (run_more (b ∷ bs) p (omega arith) high) ∙ ap (λ i. drop i bs) (sym x.1) in
-    (sign b bs, ap Number v ∙ ap told (sym x.0), begins (b ∷ bs) k p m)
+    let d : digit b ≡ true = digit_yes b (omega arith) high in
+    let left : drop (run (b ∷ bs)) (b ∷ bs) ≡ drop (more b bs) bs = rw d (ap (λ i. drop i bs) (sym x.1)) in
+    (sign b bs, ap Number v ∙ ap told (sym x.0), begins k (r ∙ left))
 
 -- `U`, and what follows it
 
-pub pair_no : (x y : ℕ) (bs : List ℕ) → (2 ≤ length bs → get_or bs 0 0 ≡ x → get_or bs 1 0 ≡ y → ⊥) → pair x y bs ≡ false
+pub pair_no : (x y : ℕ) (bs : List ℕ) → (2 ≤ length bs → get_or bs 0 0 ≡ x → get_or bs 1 0 ≡ y → ⊥)
+    → pair x y bs ≡ false
 pair_no x y [] n = refl
 pair_no x y (a ∷ []) n = refl
 pair_no x y (a ∷ b ∷ bs) n = go (eqb a x) refl (eqb b y) refl

@@ -1,5 +1,5 @@
 -- A sign that is no number is told as it is, and a number that is told as a small one is that number.
-use Rattle.std.proofs.Common.{◌≡◌, ℕ, List, sym, refl, ◌∙◌, subst, arith}
+use Rattle.std.proofs.Common.{◌≡◌, ℕ, List, sym, refl, ◌∙◌, subst}
 use Rattle.signs.specs.declared.Sign.{Sign}
 use Rattle.signs.specs.declared.Sign.TheVariants.{Open, Close, OpenSquare, CloseSquare, Bang, Amp, Bar, Each, Until}
 use Rattle.signs.specs.declared.Sign.TheVariants.{UntilAtMost, UntilAtLeast, Letter, Number, Bad}
@@ -45,19 +45,19 @@ exactly {text} {rest} {s} {u} e p (t, x, b) = subst (λ z. Begins text z rest) (
 -- the number that is told as n
 pub number_told : (n : ℕ) (t : Sign) → Number n ≡ told t → (m : ℕ) × (t ≡ Number m) × (n ≡ cap m)
 number_told n (Number m) e = (m, refl, cc)
-number_told n Open e = let z : ◌≡◌ {A = ℕ} 0 1 = cc in absurd (omega arith)
-number_told n Close e = let z : ◌≡◌ {A = ℕ} 0 1 = cc in absurd (omega arith)
-number_told n OpenSquare e = let z : ◌≡◌ {A = ℕ} 0 1 = cc in absurd (omega arith)
-number_told n CloseSquare e = let z : ◌≡◌ {A = ℕ} 0 1 = cc in absurd (omega arith)
-number_told n Bang e = let z : ◌≡◌ {A = ℕ} 0 1 = cc in absurd (omega arith)
-number_told n Amp e = let z : ◌≡◌ {A = ℕ} 0 1 = cc in absurd (omega arith)
-number_told n Bar e = let z : ◌≡◌ {A = ℕ} 0 1 = cc in absurd (omega arith)
-number_told n (Each q) e = let z : ◌≡◌ {A = ℕ} 0 1 = cc in absurd (omega arith)
-number_told n Until e = let z : ◌≡◌ {A = ℕ} 0 1 = cc in absurd (omega arith)
-number_told n UntilAtMost e = let z : ◌≡◌ {A = ℕ} 0 1 = cc in absurd (omega arith)
-number_told n UntilAtLeast e = let z : ◌≡◌ {A = ℕ} 0 1 = cc in absurd (omega arith)
-number_told n (Letter k) e = let z : ◌≡◌ {A = ℕ} 0 1 = cc in absurd (omega arith)
-number_told n Bad e = let z : ◌≡◌ {A = ℕ} 0 1 = cc in absurd (omega arith)
+number_told n Open e = cc
+number_told n Close e = cc
+number_told n OpenSquare e = cc
+number_told n CloseSquare e = cc
+number_told n Bang e = cc
+number_told n Amp e = cc
+number_told n Bar e = cc
+number_told n (Each q) e = cc
+number_told n Until e = cc
+number_told n UntilAtMost e = cc
+number_told n UntilAtLeast e = cc
+number_told n (Letter k) e = cc
+number_told n Bad e = cc
 
 pub number_begins : {text rest : List ℕ} {s : Sign} {n : ℕ} → s ≡ Number n → Told text s rest
     → (m : ℕ) × (n ≡ cap m) × Begins text (Number m) rest

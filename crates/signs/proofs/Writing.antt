@@ -39,7 +39,8 @@ digits_run [] bs a e = e
 digits_run (d ∷ ds) bs a e =
     let t : digit d ≡ true = digit_yes d a.0.0 a.0.1 in rw t (ap suc (digits_run ds bs a.1 e))
 
-digits_value : (v : ℕ) (ds bs : List ℕ) → AllByRecursion Digit ds → ((u : ℕ) → value u bs ≡ u) → value v (ds ++ bs) ≡ worth v ds
+digits_value : (v : ℕ) (ds bs : List ℕ) → AllByRecursion Digit ds → ((u : ℕ) → value u bs ≡ u)
+    → value v (ds ++ bs) ≡ worth v ds
 digits_value v [] bs a e = e v
 digits_value v (d ∷ ds) bs a e =
     let t : digit d ≡ true = digit_yes d a.0.0 a.0.1 in rw t (digits_value (v * 10 + (d - 48)) ds bs a.1 e)
@@ -131,7 +132,8 @@ written_good text (s ∷ ss) w = (bad_unwritten w.bytes s w.spelled, written_goo
 -- a text is spaces alone, or has a first byte that is none
 pub data Front (text : List ℕ) : Type 0 where
   blank : AllByRecursion Space text → Front text
-  begins : (ws : List ℕ) (b : ℕ) (bs : List ℕ) → AllByRecursion Space ws → (b ≡ 32 → ⊥) → text ≡ ws ++ (b ∷ bs) → Front text
+  begins : (ws : List ℕ) (b : ℕ) (bs : List ℕ) → AllByRecursion Space ws → (b ≡ 32 → ⊥)
+      → text ≡ ws ++ (b ∷ bs) → Front text
 
 front : (text : List ℕ) → Front text
 front [] = blank tt
@@ -154,7 +156,8 @@ digit_bounds b e = go (leb 48 b) refl (leb b 57) refl e
 run_digits : (bs : List ℕ) → AllByRecursion Digit (take (run bs) bs)
 run_digits [] = tt
 run_digits (b ∷ bs) =
-    by_cond (λ m. AllByRecursion Digit (take m (b ∷ bs))) (digit b) _ _ (λ e. (digit_bounds b e, run_digits bs)) (λ _. tt)
+    by_cond (λ m. AllByRecursion Digit (take m (b ∷ bs))) (digit b) _ _ (λ e. (digit_bounds b e, run_digits bs))
+    (λ _. tt)
 
 run_value : (v : ℕ) (bs : List ℕ) → worth v (take (run bs) bs) ≡ value v bs
 run_value v [] = refl
@@ -163,7 +166,7 @@ run_value v (b ∷ bs) =
     (λ _. refl)
 
 run_apart : (bs : List ℕ) (c : ℕ) → Digit c → Starts (drop (run bs) bs) (c ∷ []) → ⊥
-run_apart [] c d = λ st. let e = st.1 in let z : ◌≡◌ {A = ℕ} 0 1 = cc in omega arith
+run_apart [] c d = λ st. let e = st.1 in cc
 run_apart (b ∷ bs) c d =
     by_cond (λ m. Starts (drop m (b ∷ bs)) (c ∷ []) → ⊥) (digit b) _ _ (λ _. run_apart bs c d)
     (λ no_digit st.
@@ -263,8 +266,8 @@ sign_meant b bs =
     (λ z. by_cond (λ s. P s 0) (eqb (run bs) 0) _ _ (λ e _. zero_meant b bs z e) (λ _ g. absurd (g refl)))
     (λ z. both_cond P (digit b) _ _ _ _ (number_meant b bs z) (λ _. plain_meant b bs)))
 
-first_of : {text : List ℕ} (ws : List ℕ) (b : ℕ) (bs : List ℕ) → AllByRecursion Space ws → (b ≡ 32 → ⊥) → text ≡ ws ++ (b ∷ bs)
-    → signs text ≡ sign b bs ∷ signs (drop (more b bs) bs)
+first_of : {text : List ℕ} (ws : List ℕ) (b : ℕ) (bs : List ℕ) → AllByRecursion Space ws → (b ≡ 32 → ⊥)
+    → text ≡ ws ++ (b ∷ bs) → signs text ≡ sign b bs ∷ signs (drop (more b bs) bs)
 first_of ws b bs a n e = ap signs e ∙ spaces_skipped ws (b ∷ bs) a ∙ first_byte b bs n
 
 signs_written : (text : List ℕ) (ss : List Sign) → signs text ≡ ss → AllByRecursion Good ss → Writes text ss
@@ -272,11 +275,11 @@ signs_written text [] e g = go (front text)
   where
     go : Front text → Writes text []
     go (blank a) = a
-    go (begins ws b bs a n t) = let x = first_of ws b bs a n t in let z : ◌≡◌ {A = ℕ} 0 1 = cc in absurd (omega arith)
+    go (begins ws b bs a n t) = let x = first_of ws b bs a n t in cc
 signs_written text (s ∷ ss) e g = go (front text) (λ rest t. signs_written rest ss t g.1)
   where
     go : Front text → ((rest : List ℕ) → signs rest ≡ ss → Writes rest ss) → Writes text (s ∷ ss)
-    go (blank a) next = let x = only_spaces text a in let z : ◌≡◌ {A = ℕ} 0 1 = cc in absurd (omega arith)
+    go (blank a) next = let x = only_spaces text a in cc
     go (begins ws b bs a n t) next =
         let x = sym (first_of ws b bs a n t) ∙ e in
         let same : sign b bs ≡ s = cc in

@@ -9,7 +9,7 @@ ghost use Rattle.signs.specs.Writing.{SignsRight};
 
 use rules::line::Quantifier;
 
-#[derive(Clone, Copy, Debug, PartialEq)]
+#[derive(Clone, Copy, Debug, PartialEq, Eq, Hash)]
 pub enum Sign {
     Open,
     Close,
@@ -50,7 +50,7 @@ fn with_digit(value: u32, digit: u8) -> u32
     requires decimal { (48 ≤ digit) × (digit ≤ 57) }
     ensures { result ≡ cap (value * 10 + (digit - 48)) }
 {
-    (value * 10 + (digit - b'0') as u32).min(LARGEST + 1)
+    (value * 10 + u32::from(digit - b'0')).min(LARGEST + 1)
 }
 
 // The number that the digits at the front write, and what follows them.
@@ -59,15 +59,10 @@ fn number(text: &[u8]) -> (u32, &[u8])
     ensures rest { result.1.now ≡ drop (run text.now) text.now }
 {
     let mut text = text;
-    let mut value: u32 = 0;
-    while let [b, rest @ ..] = text {
-        match *b as char {
-            '0'..='9' => {
-                value = with_digit(value, *b);
-                text = rest;
-            }
-            _ => break,
-        }
+    let mut value = 0;
+    while let [digit @ b'0'..=b'9', rest @ ..] = text {
+        value = with_digit(value, *digit);
+        text = rest;
     }
     (value, text)
 }
@@ -86,10 +81,7 @@ fn until_sign(rest: &[u8]) -> (Sign, &[u8])
 fn digit_first(text: &[u8]) -> bool
     ensures { MatchBool result (0 < run text.now) (run text.now ≡ 0) }
 {
-    match text {
-        [b'0'..=b'9', ..] => true,
-        _ => false,
-    }
+    matches!(text, [b'0'..=b'9', ..])
 }
 
 // The sign of a `0`, which is bad before a digit.
@@ -127,37 +119,32 @@ pub fn next_sign(text: &[u8]) -> Option<(Sign, &[u8])>
     ensures { First text.now result }
 {
     let text = skip_spaces(text);
-    let [b, rest @ ..] = text else {
-        return None;
-    };
-    match *b as char {
-        'U' => Some(until_sign(rest)),
-        '0' => Some((zero_sign(rest), rest)),
+    let (b, rest) = text.split_first()?;
+    Some(match *b as char {
+        'U' => until_sign(rest),
+        '0' => (zero_sign(rest), rest),
         '1'..='9' => {
             let (n, rest) = number(text);
-            Some((Sign::Number(n), rest))
+            (Sign::Number(n), rest)
         }
-        _ => Some((plain_sign(*b), rest)),
-    }
+        _ => (plain_sign(*b), rest),
+    })
 }
 
 // What follows `sign`, where the text begins with it. (Of numbers it tells nothing.)
 pub fn after_sign(text: &[u8], sign: Sign) -> Option<&[u8]>
     ensures { After text.now sign result }
 {
-    match next_sign(text) {
-        Some((first, rest)) => { if first == sign { Some(rest) } else { None } }
-        None => None,
-    }
+    let (first, rest) = next_sign(text)?;
+    (first == sign).then_some(rest)
 }
 
 // The number that the text begins with, and what follows it.
 pub fn number_first(text: &[u8]) -> Option<(u32, &[u8])>
     ensures { FirstNumber text.now result }
 {
-    let (first, rest) = next_sign(text)?;
-    match first {
-        Sign::Number(n) => Some((n, rest)),
+    match next_sign(text)? {
+        (Sign::Number(n), rest) => Some((n, rest)),
         _ => None,
     }
 }

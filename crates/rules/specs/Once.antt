@@ -1,13 +1,13 @@
 -- That lines are well formed holds in one way at most.
-use Rattle.std.proofs.Common.{ℕ, List, refl}
-use native.Mathlib.Bridge.{le_prop}
-use std.HLevel.{Π_prop, ×_prop}
+use Rattle.std.specs.Prelude.{ℕ, List}
+use Rattle.std.specs.Coded.{×_prop, Unit-prop, le_prop}
+use std.HLevel.{Π_prop}
 use Rattle.rules.specs.declared.line.Line.{Line}
 use Rattle.rules.specs.declared.line.Line.TheVariants as line
 use Rattle.rules.specs.Lines.{Formed, WellFormed}
 
 formed_once : (k : ℕ) (l : Line) → IsProp (Formed k l)
-formed_once k line.One = λ x y. refl
+formed_once k line.One = Unit-prop
 formed_once k (line.Letter a) = le_prop
 formed_once k (line.Not i) = le_prop
 formed_once k (line.And i j) = ×_prop le_prop le_prop
