@@ -1,6 +1,6 @@
 use Rattle.std.proofs.Common.{ℕ, ap, ◌∙◌, arith}
 use Rattle.program.specs.Edits.{leads}
-use Rattle.views.proofs.NewStages.{through_at}
+use Rattle.views.proofs.TableMoves.{through_at}
 use Rattle.views.proofs.minute.piece.Goals as goal
 use Rattle.views.proofs.minute.piece.Goals.{then-place-eq0, else-place-eq0, then-place-inside, else-place-inside}
 
