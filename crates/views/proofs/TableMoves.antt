@@ -94,7 +94,8 @@ module _ (es : List ℕ) (up : Rising es) where
 -- The table goes by the minutes of moves, of which the first is move b.
 abbrev From : List ℕ → ℕ → List Move → Type 0
 From es b ms =
-    (i k : ℕ) → i < length ms → k ≡ b + i → first_piece es (k + 1) ≡ first_piece es k + suc (inside (get_or ms i no_move))
+    (i k : ℕ) → i < length ms → k ≡ b + i
+    → first_piece es (k + 1) ≡ first_piece es k + suc (inside (get_or ms i no_move))
 
 rest_from : (es : List ℕ) (b : ℕ) (m : Move) (ms : List Move) → From es b (m ∷ ms) → From es (b + 1) ms
 rest_from es b m ms h = λ i k l e. h (suc i) k (omega arith) (omega arith)

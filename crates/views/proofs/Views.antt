@@ -47,7 +47,8 @@ module _ (t : PieceTable) (p : Prog) (lim : Limits p) where
   pub piece_each : (m : ℕ) → m ≤ most_moves → m ≤ first_piece es m
   piece_each m l = let r = rises es t.rising 0 m (omega arith) l in omega arith
 
-  pub lengths_within : (s m : ℕ) → s ≡ n → m ≡ c → s + first_piece es m - m ≤ most_stages → first_piece es m ≤ most_moves
+  pub lengths_within : (s m : ℕ) → s ≡ n → m ≡ c → s + first_piece es m - m ≤ most_stages
+      → first_piece es m ≤ most_moves
       → LengthsOf (viewed es p) (record { stages = s + first_piece es m - m; moves = first_piece es m })
   lengths_within s m fs fm ls lm =
       let a = stages_q in
@@ -89,11 +90,13 @@ module _ (t : PieceTable) (p : Prog) (lim : Limits p) where
 
   -- a view that has a stage, or a move, is not cut short
   stage_within : (s : ℕ) → s < length (viewed es p).stages → within q ≡ true
-  stage_within s l = ⊎_elim (λ h. h) (λ h. absurd (let e = ap (λ (x : Prog). length x.stages) (hidden h) in omega arith))
+  stage_within s l =
+      ⊎_elim (λ h. h) (λ h. absurd (let e = ap (λ (x : Prog). length x.stages) (hidden h) in omega arith))
       (cases_Bool (within q))
 
   move_within : (k : ℕ) → k < length (viewed es p).moves → within q ≡ true
-  move_within k l = ⊎_elim (λ h. h) (λ h. absurd (let e = ap (λ (x : Prog). length x.moves) (hidden h) in omega arith))
+  move_within k l =
+      ⊎_elim (λ h. h) (λ h. absurd (let e = ap (λ (x : Prog). length x.moves) (hidden h) in omega arith))
       (cases_Bool (within q))
 
   pub old_stage : (s : ℕ) → s < length (viewed es p).stages → s < n → stage_at p s ≡ stage_at (viewed es p) s
@@ -143,8 +146,8 @@ module _ (t : PieceTable) (p : Prog) (lim : Limits p) where
       let z = t.begins in
       j
       ∙ sym
-      (table_move es t.rising n 0 old k (k - first_piece es old) old p.moves lo (omega arith) (omega arith) (omega arith)
-      (omega arith))
+      (table_move es t.rising n 0 old k (k - first_piece es old) old p.moves lo (omega arith) (omega arith)
+      (omega arith) (omega arith))
       ∙ sym (ap (λ (x : Prog). move_at x k) (shown (move_within k l)))
 
   -- a table that goes by the minutes

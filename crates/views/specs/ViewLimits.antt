@@ -28,12 +28,17 @@ length_made e m n = length_through e (min m.minutes 1) m.leaves n m.enters
 module _ (es : List ℕ) (up : Rising es) where
   pub rises : (k j : ℕ) → k ≤ j → j ≤ most_moves → first_piece es k + j ≤ first_piece es j + k
   rises k zero h l =
-      let e : first_piece es k ≡ first_piece es 0 = ap (first_piece es) (let z : k ≡ 0 = omega arith in z) in omega arith
+      let e : first_piece es k ≡ first_piece es 0 = ap (first_piece es) (let z : k ≡ 0 = omega arith in z) in
+      omega arith
   rises k (suc j) h l = go (cases_lt k (suc j)) (rises k j)
     where
       go : (k < suc j) ⊎ (suc j ≤ k) → (k ≤ j → j ≤ most_moves → first_piece es k + j ≤ first_piece es j + k)
           → first_piece es k + suc j ≤ first_piece es (suc j) + k
-      go (inl u) again = let a = again (omega arith) (omega arith) in let b = up j (omega arith) in let e = ap (first_piece es) (add-one j) in omega arith
+      go (inl u) again =
+          let a = again (omega arith) (omega arith) in
+          let b = up j (omega arith) in
+          let e = ap (first_piece es) (add-one j) in
+          omega arith
       go (inr u) again =
           let e : first_piece es k ≡ first_piece es (suc j) =
           ap (first_piece es) (let z : k ≡ suc j = omega arith in z) in
@@ -46,7 +51,8 @@ module _ (es : List ℕ) (up : Rising es) where
   length_table : (n k j : ℕ) (ms : List Move) → j ≡ k + length ms → j ≤ most_moves
       → length (table_moves es n k ms) + first_piece es k ≡ first_piece es j
   length_table n k j [] e l =
-      let z : first_piece es k ≡ first_piece es j = ap (first_piece es) (let y : k ≡ j = omega arith in y) in omega arith
+      let z : first_piece es k ≡ first_piece es j = ap (first_piece es) (let y : k ≡ j = omega arith in y) in
+      omega arith
   length_table n k j (m ∷ ms) e l =
       let a = length-append (makes n k m) (table_moves es n (k + 1) ms) in
       let b = length_made (between es k) m (n + new_before es k) in

@@ -1,5 +1,5 @@
-// The minute by minute view of a program: each move of two minutes and more is made by pieces of one minute, through new
-// silent stages. The view holds the program below and a table of pieces, and works out each answer from these.
+// The minute by minute view of a program: each move of two minutes and more is made by pieces of one minute, through
+// new silent stages. The view holds the program below and a table of pieces, and works out each answer from these.
 mod piece_table;
 
 ghost use Rattle.std.specs.Prelude.{◌≡◌, ◌+◌, ◌≤◌, slice_index_or};

@@ -12,8 +12,11 @@ returns c =
     (λ z.
     elim c.if-place-eq0.branch [ then-place-eq0 w ↦ w.leaves-is | else-place-eq0 w ↦ absurd (w.if-place-eq0.false z) ])
     (λ z.
-    elim c.if-place-eq0.branch [ then-place-eq0 w ↦ absurd (omega (arith, w.if-place-eq0.true)) | else-place-eq0 w ↦ w.leaves-is ])
+    elim c.if-place-eq0.branch
+    [ then-place-eq0 w ↦ absurd (omega (arith, w.if-place-eq0.true)) | else-place-eq0 w ↦ w.leaves-is ])
     (λ z.
-    elim c.if-place-inside.branch [ then-place-inside w ↦ w.enters-is | else-place-inside w ↦ absurd (w.if-place-inside.false z) ])
+    elim c.if-place-inside.branch
+    [ then-place-inside w ↦ w.enters-is | else-place-inside w ↦ absurd (w.if-place-inside.false z) ])
     (λ z.
-    elim c.if-place-inside.branch [ then-place-inside w ↦ absurd (omega (arith, w.if-place-inside.true)) | else-place-inside w ↦ w.enters-is ])
+    elim c.if-place-inside.branch
+    [ then-place-inside w ↦ absurd (omega (arith, w.if-place-inside.true)) | else-place-inside w ↦ w.enters-is ])

@@ -6,7 +6,10 @@ pub overflow_sub-stages : goal.overflow_sub-stages
 overflow_sub-stages g c =
     let x = c.args.self.now in
     let h = g.met.P.Program.limits x.program.now in
-    omega (arith, piece_each x.pieces (g.P.Program.meaning x.program.now) h c.move_count-below.result (omega (arith, h.few_moves)))
+    omega (
+      arith,
+      piece_each x.pieces (g.P.Program.meaning x.program.now) h c.move_count-below.result (omega (arith, h.few_moves)),
+    )
 
 pub returns-then-moves-le-MOST_MOVES : goal.returns-then-moves-le-MOST_MOVES
 returns-then-moves-le-MOST_MOVES g c =

@@ -18,7 +18,8 @@ returns-then-goes_on c =
     let gs = c.args.self.now.segments.now in
     let i = c.loop-i.i in
     ap (λ (d : ℕ). leads (2 * i + 1) d (2 * i + 2)) c.within_a_week-then-k-i-2.ensures
-    ∙ ap (λ (t : ℕ). leads (2 * i + 1) (within_a_week (at gs i).hold) t) (sym (goes_on gs (suc i) (2 * i + 2) (omega arith)))
+    ∙ ap (λ (t : ℕ). leads (2 * i + 1) (within_a_week (at gs i).hold) t)
+    (sym (goes_on gs (suc i) (2 * i + 2) (omega arith)))
     ∙ hold_move gs 0 i (2 * i) c.args.k (omega arith) (omega arith) (omega arith)
 
 pub returns-else-goes_on : goal.returns-else-goes_on

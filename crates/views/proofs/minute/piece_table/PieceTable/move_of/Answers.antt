@@ -13,7 +13,8 @@ found c =
     let xs = take c.args.moves t.first in
     move_begun t.first t.rising c.args.moves c.args.piece c.partition_point.result t.all t.begins
     c.requires.few c.requires.real c.partition_point.ensures.bound
-    (IsPartitionPoint-from_clause (λ x. leb x c.args.piece) xs c.partition_point.result c.partition_point.ensures.partitioned
+    (IsPartitionPoint-from_clause (λ x. leb x c.args.piece) xs c.partition_point.result
+    c.partition_point.ensures.partitioned
     (IsPartitionedBy-leb (λ x. x) xs c.args.piece (first_rises t.first t.rising t.all c.args.moves))
     (λ a r f' k. search rules))
 
