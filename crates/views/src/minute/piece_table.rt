@@ -1,5 +1,5 @@
-// A table of the pieces that a view makes of a program's moves, numbered from 0 on: its entry k is the first piece of
-// move k. A move has one piece more than it goes through new stages; so before those of move k there are `first[k] - k`.
+// A table of the pieces that a view makes of a program's moves, numbered from 0 on: entry k is the first piece of move
+// k. A move has a piece more than it goes through new stages, so `first[k] - k` of these come before those of move k.
 ghost use Rattle.std.specs.Prelude.{◌≡◌, ◌+◌, ◌<◌, ◌≤◌, length};
 ghost use Rattle.program.specs.Meaning.{most_moves};
 ghost use Rattle.views.specs.PieceTable.{first_piece, Rising, ByMinutes};
