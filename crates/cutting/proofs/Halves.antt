@@ -1,6 +1,7 @@
 -- A program in which one move of another is made by two refines it: a cut refines, and a join read backwards.
 use Rattle.std.proofs.Common.{◌≡◌, ℕ, zero, suc, ◌<◌, ◌≤◌, Bool, true, false, T, eqb, ◌↔◌, List, [], ◌∷◌, ◌++◌, map}
 use Rattle.std.proofs.Common.{length, get_or, sym, refl, ap, ◌∙◌, subst, ⊎_elim, arith}
+use Rattle.std.proofs.Math.ListN.{get_or-map}
 use Rattle.std.proofs.lemmas.List.{length-map, map-append, get_or_push}
 use Rattle.std.proofs.lemmas.Bool.{eqb-true, eqb-false, eq-eqb}
 use Rattle.tctl.specs.Graph as timed
@@ -24,11 +25,6 @@ use Rattle.cutting.proofs.Alikes.{refined_alike_lem}
 
 -- The graph of a program
 
-get_or-map_all : {A B : Type 0} (f : A → B) (xs : List A) (k : ℕ) (d : A) → get_or (map f xs) k (f d) ≡ f (get_or xs k d)
-get_or-map_all f [] k d = refl
-get_or-map_all f (x ∷ xs) zero d = refl
-get_or-map_all f (x ∷ xs) (suc k) d = get_or-map_all f xs k d
-
 pub graph_size : (p : Prog) → timed.size (graph p) ≡ size p
 graph_size p = length-map p.stages timed_stage
 
@@ -36,7 +32,7 @@ pub graph_count : (p : Prog) → timed.count (graph p) ≡ count p
 graph_count p = length-map p.moves timed_move
 
 pub graph_move : (p : Prog) (m : ℕ) → timed.move_at (graph p) m ≡ timed_move (move_at p m)
-graph_move p m = get_or-map_all timed_move p.moves m no_move
+graph_move p m = get_or-map timed_move p.moves m no_move
 
 module _ (p : Prog) (m : ℕ) where
   pub graph_leaves : (timed.move_at (graph p) m).leaves ≡ (move_at p m).leaves

@@ -4,6 +4,8 @@ use Rattle.std.proofs.Common.{replicate, sym, refl, ap, ◌∙◌, subst, inl, i
 use Rattle.std.proofs.Common.{add-suc, suc-add, zero-add, arith, length-append}
 use lib.ListN.{length-replicate}
 use Rattle.std.proofs.lemmas.List.{get_or_append_left, get_or-append-add, get_or-append_right}
+use Rattle.std.specs.List.{range_with_len}
+use Rattle.std.proofs.lemmas.List.FromFn.{length-range_with_len, get_or-range_with_len}
 use Rattle.std.proofs.lemmas.Bool.{cases_lt, cases_order}
 use Rattle.tctl.specs.Graph.{Graph, Stage, Move, Open, size, count, move_at}
 use Rattle.tctl.specs.Runs.{Ends, Sound}
@@ -191,29 +193,17 @@ less_many (suc d) k l = omega arith
 
 -- Numbers in a row
 
-abbrev row : ℕ → ℕ → List ℕ
-row o zero = []
-row o (suc l) = o ∷ row (suc o) l
-
-row_length : (o l : ℕ) → length (row o l) ≡ l
-row_length o zero = refl
-row_length o (suc l) = ap suc (row_length (suc o) l)
-
-row_at : (o l k : ℕ) → k < l → get_or (row o l) k 0 ≡ o + k
-row_at o zero k h = absurd (not-suc-le-zero h)
-row_at o (suc l) zero h = sym (add-zero o)
-row_at o (suc l) (suc k) h = row_at (suc o) l k (omega arith) ∙ (suc-add o k ∙ sym (add-suc o k))
-
-row_ones : (q : Graph) (o l : ℕ) → ((k : ℕ) → k < l → (move_at q (o + k)).minutes ≡ 1) → span q (row o l) ≡ l
+row_ones : (q : Graph) (o l : ℕ) → ((k : ℕ) → k < l → (move_at q (o + k)).minutes ≡ 1) → span q (range_with_len o l) ≡ l
 row_ones q o zero h = refl
 row_ones q o (suc l) h =
     let One : ℕ → Type 0 = λ x. (move_at q x).minutes ≡ 1 in
     let a : (move_at q o).minutes ≡ 1 = subst One (add-zero o) (h 0 (omega arith)) in
-    let b = row_ones q (suc o) l (λ k u. subst One (add-suc o k ∙ sym (suc-add o k)) (h (suc k) (omega arith))) in
+    let b = row_ones q (o + 1) l
+    (λ k u. subst One (let z : o + suc k ≡ o + 1 + k = omega arith in z) (h (suc k) (omega arith))) in
     omega arith
 
 row_span : (q : Graph) (d s n t o : ℕ) → ((k : ℕ) → k < many d → move_at q (o + k) ≡ at (by_minutes d s n t) k)
-    → span q (row o (many d)) ≡ d
+    → span q (range_with_len o (many d)) ≡ d
 row_span q zero s n t o h =
     let e = ap (λ (m : Move). m.minutes) (h 0 (omega arith)) in
     let a : (move_at q o).minutes ≡ 0 = subst (λ x. (move_at q x).minutes ≡ 0) (add-zero o) e in
@@ -265,13 +255,13 @@ module _ (p : Graph) (ok : Ends p) where
         ∙ by_leaves x.minutes x.leaves (new m) x.enters k l
 
   abbrev chain : ℕ → List ℕ
-  chain m = row (start ms m) (long ms m)
+  chain m = range_with_len (start ms m) (long ms m)
 
   len : (m : ℕ) → length (chain m) ≡ long ms m
-  len m = row_length (start ms m) (long ms m)
+  len m = length-range_with_len (start ms m) (long ms m)
 
   chain_at : (m k : ℕ) → k < length (chain m) → get_or (chain m) k 0 ≡ start ms m + k
-  chain_at m k l = let e = len m in row_at (start ms m) (long ms m) k (omega arith)
+  chain_at m k l = let e = len m in get_or-range_with_len (start ms m) (long ms m) k 0 (omega arith)
 
   minute_silent : (s : ℕ) → size p ≤ s → Open q s → ⊥
   minute_silent s l o =
@@ -304,7 +294,8 @@ module _ (p : Graph) (ok : Ends p) where
       )
 
   inner_one : (a b m k m' k' : ℕ) → m < count p → m' < count p → k < (at ms m).minutes - 1
-      → k' < (at ms m').minutes - 1 → start ms m + suc k ≡ a → start ms m' + suc k' ≡ b → new m + k ≡ new m' + k' → a ≡ b
+      → k' < (at ms m').minutes - 1 → start ms m + suc k ≡ a → start ms m' + suc k' ≡ b → new m + k ≡ new m' + k'
+      → a ≡ b
   inner_one a b m k m' k' lm lm' lk lk' ea eb e =
       ⊎_elim
       (λ i.
@@ -332,7 +323,8 @@ module _ (p : Graph) (ok : Ends p) where
               first = λ m lm.
                   let e = len m in
                   let h = many_some (at ms m).minutes in
-                  ap (λ x. (move_at q x).leaves) (chain_at m 0 (omega arith) ∙ add-zero (start ms m)) ∙ first_leaves m lm;
+                  ap (λ x. (move_at q x).leaves) (chain_at m 0 (omega arith) ∙ add-zero (start ms m))
+                  ∙ first_leaves m lm;
               last = λ m k lm lk.
                   ap (λ x. (move_at q x).enters) (chain_at m k (omega arith)) ∙ last_enters m lm k (lk ∙ len m);
               minutes = λ m lm.

@@ -6,38 +6,26 @@
 ghost use Rattle.cutting.specs.Theorems.{RefinedAlike, MinuteRefines, CutRefines, JoinRefines};
 ghost use Rattle.cutting.specs.Theorems.{SameVerdicts, EditsTidy};
 
-pub fn refined_alike() -> u8
+pub fn refined_alike()
     ensures { RefinedAlike }
-{
-    0
-}
+{}
 
-pub fn minute_refines() -> u8
+pub fn minute_refines()
     ensures { MinuteRefines }
-{
-    0
-}
+{}
 
-pub fn cut_refines() -> u8
+pub fn cut_refines()
     ensures { CutRefines }
-{
-    0
-}
+{}
 
-pub fn join_refines() -> u8
+pub fn join_refines()
     ensures { JoinRefines }
-{
-    0
-}
+{}
 
-pub fn same_verdicts() -> u8
+pub fn same_verdicts()
     ensures { SameVerdicts }
-{
-    0
-}
+{}
 
-pub fn edits_tidy() -> u8
+pub fn edits_tidy()
     ensures { EditsTidy }
-{
-    0
-}
+{}

@@ -1,23 +1,10 @@
 -- Bytes are cut at their first mark in one way.
-use Rattle.std.proofs.Common.{◌≡◌, ℕ, zero, suc, ◌+◌, ◌-◌, ◌<◌, Bool, true, false, cond, eqb, List, [], ◌∷◌, ◌++◌}
-use Rattle.std.proofs.Common.{length, get_or, take, drop, sym, refl, ap, ◌∙◌, subst, arith}
+use Rattle.std.proofs.Common.{◌≡◌, ℕ, zero, suc, Bool, true, false, cond, eqb, List, [], ◌∷◌, ◌++◌}
+use Rattle.std.proofs.Common.{length, refl, subst, arith}
 use borrow.Author.Tests.{eqb-false, both_ways}
-use Rattle.std.proofs.lemmas.List.{take-append-drop, drop_more, take_rest, get_or-take, length-take-le, length-append}
+use Rattle.std.proofs.lemmas.List.{length-append}
 use Rattle.std.proofs.lemmas.List.{get_or_at}
 use Rattle.layout.specs.Splits.{Lacks}
-
-pub cut_at : (xs : List ℕ) (i mark : ℕ) → i < length xs → get_or xs i 0 ≡ mark
-    → ((k : ℕ) → k < i → get_or xs k 0 ≡ mark → ⊥)
-    → (xs ≡ take (i - 0) xs ++ mark ∷ take (length xs - (i + 1)) (drop (i + 1) xs)) × Lacks mark (take (i - 0) xs)
-cut_at xs i mark l is before =
-    let z : i - 0 ≡ i = omega arith in
-    let rest : drop i xs ≡ mark ∷ take (length xs - (i + 1)) (drop (i + 1) xs) =
-    drop_more xs i 0 l ∙ ap (λ b. b ∷ drop (i + 1) xs) is ∙ ap (λ ys. mark ∷ ys) (sym (take_rest xs (i + 1))) in (
-      sym (take-append-drop i xs) ∙ ap (λ k. take k xs ++ drop i xs) (sym z) ∙ ap (λ ys. take (i - 0) xs ++ ys) rest,
-      subst (λ n. Lacks mark (take n xs)) (sym z)
-          (λ k h e. let m : k < i = omega (arith, length-take-le i xs (omega arith)) in before k m
-          (sym (get_or-take i xs k 0 m) ∙ e)),
-    )
 
 pub lacks_tail : (mark b : ℕ) (bs : List ℕ) → Lacks mark (b ∷ bs) → Lacks mark bs
 lacks_tail mark b bs n i l e = n (suc i) (omega arith) e

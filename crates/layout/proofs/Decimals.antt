@@ -49,7 +49,8 @@ Front text i v = Digits (take i text) × (v ≡ worth_after 0 (take i text))
 
 digits_push : (bs : List ℕ) (b : ℕ) → Digits bs → 48 ≤ b → b ≤ 57 → Digits (bs ++ b ∷ [])
 digits_push bs b ds low high i h =
-    ⊎_elim (λ (l : i < length bs). subst (λ x. (48 ≤ x) × (x ≤ 57)) (sym (get_or_append_left bs (b ∷ []) 0 i l)) (ds i l))
+    ⊎_elim
+    (λ (l : i < length bs). subst (λ x. (48 ≤ x) × (x ≤ 57)) (sym (get_or_append_left bs (b ∷ []) 0 i l)) (ds i l))
     (λ (l : length bs ≤ i). subst (λ x. (48 ≤ x) × (x ≤ 57))
     (sym (get_or_push bs b 0 i (omega (arith, length_push bs b)))) (low, high))
     (cases_lt i (length bs))

@@ -3,6 +3,8 @@ use Rattle.std.proofs.Common.{◌≡◌, ℕ, ◌+◌, ◌<◌, ◌≤◌, Bool,
 use Rattle.std.proofs.Common.{length, Ok, Err, Result, sym, refl, ap, ◌∙◌, subst, arith}
 use denote.Enum.Bare.{sameb, differs_true, differs_false}
 use Rattle.layout.specs.contracts.loading.Part.{the_type}
+use Rattle.std.specs.Result.{MatchResult, IsErrAnd}
+use Rattle.std.proofs.lemmas.Result.{err_from_is_err_and}
 use Rattle.std.proofs.lemmas.List.{append_assoc, append-nil, length-append, length_push, nil_from_length}
 use Rattle.program.specs.declared.EditFault.{EditFault}
 use Rattle.program.specs.declared.EditFault.TheVariants.{NoStage, SilentStage, TooLong, StagesFull, MovesFull}
@@ -207,7 +209,8 @@ module _ {caps : Caps} {p : Prog} {page : List ℕ} {part : Part} {number : ℕ}
             ∙ append-nil (rules_of (texts_of s.lines));
       }
 
-  pub breaks_form : 0 < length rest → length page ≤ most_bytes → NoLine part rest → BreaksForm caps p page (number + 1) q
+  pub breaks_form : 0 < length rest → length page ≤ most_bytes → NoLine part rest
+      → BreaksForm caps p page (number + 1) q
   breaks_form more short none =
       record {
         lines = s.lines;
@@ -248,3 +251,22 @@ is_part x part r h e = differs_false the_type tt x part (sym h ∙ e)
 
 pub not_part : (x part : Part) (r : Bool) → r ≡ not (sameb the_type x part) → r ≡ true → x ≡ part → ⊥
 not_part x part r h e = differs_true the_type x part (sym h ∙ e)
+
+ok_or_err : {T E : Type 0} {x : T} {e : E} → ◌≡◌ {A = Result T E} (Ok x) (Err e) → ⊥
+ok_or_err h = let z : ◌≡◌ {A = ℕ} 0 1 = cc in omega arith
+
+-- The edit behind an answer whose error was given a line.
+pub mapped_err : {T E D : Type 0} (Q : E → D → Type 0) (r : Result T E) (s : Result T D) (y : D)
+    → MatchResult r (λ x. s ≡ Ok x) (λ e. IsErrAnd s (Q e)) → s ≡ Err y → (e : E) × (r ≡ Err e) × Q e y
+mapped_err Q (Ok x) s y m is = absurd (ok_or_err (sym m ∙ is))
+mapped_err {T} {E} {D} Q (Err e) s y m is =
+    let p = err_from_is_err_and s m in
+    let z : ◌≡◌ {A = Result T D} (Err p.0) (Err y) = sym p.1 ∙ is in
+    (e, refl, subst (Q e) (let w : p.0 ≡ y = cc in w) p.2)
+
+pub mapped_ok : {T E D : Type 0} (Q : E → D → Type 0) (r : Result T E) (s : Result T D) (x : T)
+    → MatchResult r (λ x. s ≡ Ok x) (λ e. IsErrAnd s (Q e)) → s ≡ Ok x → r ≡ Ok x
+mapped_ok {T} {E} {D} Q (Ok y) s x m is =
+    let z : ◌≡◌ {A = Result T D} (Ok y) (Ok x) = sym m ∙ is in
+    ap Ok (let w : y ≡ x = cc in w)
+mapped_ok Q (Err e) s x m is = absurd (let p = err_from_is_err_and s m in ok_or_err (sym is ∙ p.1))

@@ -6,7 +6,8 @@ use Rattle.layout.specs.Letters.{letters}
 use Rattle.layout.specs.Splits.{Lacks}
 use Rattle.layout.specs.declared.loading.Part.{Part}
 use Rattle.layout.specs.Pages.{NoLine}
-use Rattle.layout.specs.Lines.{Line, stage, move, rule, write, Fits, write_move, FitsMove}
+use Rattle.layout.specs.declared.line.MoveLine.{MoveLine}
+use Rattle.layout.specs.Lines.{Line, stage, move, rule, write, Fits, move_line, write_move, FitsMove}
 use Rattle.layout.proofs.Decimals.{decimal_writes}
 use Rattle.layout.proofs.Cuts.{no_cut, one_cut, lacks_cons, lacks_append, lacks_behind, lacks_from_test}
 use Rattle.layout.proofs.Rising.{same_marks, letter_low}
@@ -23,18 +24,20 @@ pub number_first : {text a rest : List ℕ} (n : ℕ) (more : List ℕ) → (tex
 number_first {text} {a} {rest} n more cut s e =
     one_cut 44 a (decimal n) rest more cut.1 (decimal_lacks_comma n s) (sym cut.0 ∙ e)
 
-same_move : (m n : ℕ × ℕ × ℕ) → FitsMove m → FitsMove n → write_move m ≡ write_move n
-    → (m.0 ≡ n.0) × (m.1 ≡ n.1) × (m.2 ≡ n.2)
+same_move : (m n : MoveLine) → FitsMove m → FitsMove n → write_move m ≡ write_move n
+    → (m.leaves ≡ n.leaves) × (m.minutes ≡ n.minutes) × (m.enters ≡ n.enters)
 same_move m n f g e =
-    let p = number_first {a = decimal m.0} n.0 (decimal n.1 ++ 44 ∷ decimal n.2) (
+    let p = number_first {a = decimal m.leaves} n.leaves (decimal n.minutes ++ 44 ∷ decimal n.enters) (
       refl,
-      decimal_lacks_comma m.0 f.0,
+      decimal_lacks_comma m.leaves f.0,
     ) g.0 e in
-    let q = number_first {a = decimal m.1} n.1 (decimal n.2) (refl, decimal_lacks_comma m.1 f.1) g.1
-    p.1 in (
-      decimal_injective m.0 n.0 (omega arith) (omega arith) p.0,
-      decimal_injective m.1 n.1 (omega arith) (omega arith) q.0,
-      decimal_injective m.2 n.2 (omega arith) (omega arith) q.1,
+    let q = number_first {a = decimal m.minutes} n.minutes (decimal n.enters) (
+      refl,
+      decimal_lacks_comma m.minutes f.1,
+    ) g.1 p.1 in (
+      decimal_injective m.leaves n.leaves (omega arith) (omega arith) p.0,
+      decimal_injective m.minutes n.minutes (omega arith) (omega arith) q.0,
+      decimal_injective m.enters n.enters (omega arith) (omega arith) q.1,
     )
 
 other_kind : {xs ys : List ℕ} (x y : ℕ) → x ∷ xs ≡ y ∷ ys → (x ≡ y → ⊥) → ⊥
@@ -46,7 +49,7 @@ same_line (stage m) (move s d t) f g e = absurd (other_kind 115 109 e (λ h. ome
 same_line (stage m) (rule text) f g e = absurd (other_kind 115 114 e (λ h. omega arith))
 same_line (move s d t) (stage m) f g e = absurd (other_kind 109 115 e (λ h. omega arith))
 same_line (move s d t) (move s' d' t') f g e =
-    let h = same_move (s, d, t) (s', d', t') f g (cc) in
+    let h = same_move (move_line s d t) (move_line s' d' t') f g (cc) in
     let p = h.0 in
     let q = h.1 in
     let r = h.2 in
@@ -57,16 +60,16 @@ same_line (rule text) (move s d t) f g e = absurd (other_kind 114 109 e (λ h. o
 same_line (rule text) (rule text') f g e = ap rule (cc)
 
 pub no_move_line : {line text : List ℕ} → line ≡ codes "move=" ++ text
-    → ((m : ℕ × ℕ × ℕ) → FitsMove m → text ≡ write_move m → ⊥) → (x : Line) → Fits x → line ≡ write x → ⊥
+    → ((m : MoveLine) → FitsMove m → text ≡ write_move m → ⊥) → (x : Line) → Fits x → line ≡ write x → ⊥
 no_move_line is none (stage marks) f e = other_kind 109 115 (sym is ∙ e) (λ h. omega arith)
-no_move_line is none (move s d t) f e = none (s, d, t) f (cc)
+no_move_line is none (move s d t) f e = none (move_line s d t) f (cc)
 no_move_line is none (rule text) f e = other_kind 109 114 (sym is ∙ e) (λ h. omega arith)
 
 pub line_lacks_end : (line : Line) → Fits line → Lacks 10 (write line)
 line_lacks_end (stage marks) f = lacks_append 10 (codes "stage=") (letters marks)
     (lacks_from_test 10 (codes "stage=") refl) (λ i l e. omega (arith, letter_low marks i l))
 line_lacks_end (move s d t) f =
-    lacks_append 10 (codes "move=") (write_move (s, d, t)) (lacks_from_test 10 (codes "move=") refl)
+    lacks_append 10 (codes "move=") (write_move (move_line s d t)) (lacks_from_test 10 (codes "move=") refl)
     (lacks_append 10 (decimal s) (44 ∷ (decimal d ++ 44 ∷ decimal t)) (decimal_lacks 10 s (omega arith) f.0)
     (lacks_cons 10 44 (decimal d ++ 44 ∷ decimal t) (λ e. omega arith)
     (lacks_append 10 (decimal d) (44 ∷ decimal t) (decimal_lacks 10 d (omega arith) f.1)

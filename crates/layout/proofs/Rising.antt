@@ -122,7 +122,8 @@ no_letter_yet text =
     }
 
 pub one_more : (text : List ℕ) (i next marks : ℕ) → i < length text → Sofar text i next marks → next ≤ get_or text i 0
-    → get_or text i 0 ≤ 112 → Sofar text (i + 1) (get_or text i 0 + 1) (marks + (1 * 2 ^ (get_or text i 0 - 97)) % 65536)
+    → get_or text i 0 ≤ 112
+    → Sofar text (i + 1) (get_or text i 0 + 1) (marks + (1 * 2 ^ (get_or text i 0 - 97)) % 65536)
 one_more text i next marks l s lo hi =
     let x = get_or text i 0 in
     let e : drop i text ≡ x ∷ drop (i + 1) text = drop_more text i 0 l in

@@ -1,5 +1,5 @@
 -- The letters of a set of marks, in rising order.
-use Rattle.std.specs.Prelude.{ℕ, zero, suc, ◌+◌, ◌/◌, ◌%◌, ◌^◌, ◌<◌, ◌≤◌, cond, List, [], ◌∷◌, ◌==◌}
+use Rattle.std.specs.Prelude.{ℕ, zero, suc, ◌+◌, ◌/◌, ◌%◌, ◌^◌, ◌<◌, cond, List, [], ◌∷◌, ◌==◌}
 
 -- The letters of k marks, of which the first has the letter b and is worth 1.
 unfoldable pub letters_from : ℕ → ℕ → ℕ → List ℕ
@@ -13,7 +13,3 @@ letters marks = letters_from 16 97 marks
 
 abbrev pub Sixteen : ℕ → Type 0
 Sixteen marks = marks < 2 ^ 16
-
--- A letter from b to p (byte 112).
-abbrev pub Letter : ℕ → ℕ → Type 0
-Letter b x = (b ≤ x) × (x ≤ 112)

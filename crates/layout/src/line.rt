@@ -1,50 +1,43 @@
 // The lines of a page: what each kind says, and how it is written.
 ghost use Rattle.std.specs.Option.{option_map};
 ghost use Rattle.layout.specs.Reading.{Reads, OneReading};
-ghost use Rattle.layout.specs.Splits.{Lacks, Splits};
+ghost use Rattle.layout.specs.Splits.{Lacks};
 ghost use Rattle.layout.specs.Lines.{write, Fits, line_of, write_move, FitsMove};
 
 use crate::marks::read_marks;
 use crate::number::read_number;
 use crate::split::split_once;
 
-// A line of a page.
-#[derive(Clone, Copy, Drop)]
-pub enum PageLine<'a> {
-    // `stage=` and its marks
-    Stage {
-        marks: u16,
-    },
-    // `move=` and its three numbers
-    Move {
-        leaves: u32,
-        minutes: u32,
-        enters: u32,
-    },
-    // `rule=` and its text
-    Rule {
-        text: &'a [u8],
-    },
+// The three numbers of a move.
+#[derive(Clone, Copy, PartialEq, Eq, Debug)]
+pub struct MoveLine {
+    pub leaves: u32,
+    pub minutes: u32,
+    pub enters: u32,
 }
 
-// What stands before the first comma, and what stands behind it.
-fn split_at_comma(text: &[u8]) -> Option<(&[u8], &[u8])>
-    ensures { Splits text.now 44 result }
-{
-    split_once(text, b',')
+// A line of a page.
+#[derive(Clone, Copy, PartialEq, Eq, Debug)]
+pub enum PageLine<'a> {
+    // `stage=` and its marks
+    Stage { marks: u16 },
+    // `move=` and its three numbers
+    Move(MoveLine),
+    // `rule=` and its text
+    Rule { text: &'a [u8] },
 }
 
 // Reads the three numbers of a move, with commas between them.
-fn read_move(text: &[u8]) -> Option<(u32, u32, u32)>
+fn read_move(text: &[u8]) -> Option<MoveLine>
     ensures { Reads write_move FitsMove text.now result }
 {
-    let (leaves, rest) = split_at_comma(text)?;
-    let (minutes, enters) = split_at_comma(rest)?;
-    Some((
-        read_number(leaves)?,
-        read_number(minutes)?,
-        read_number(enters)?,
-    ))
+    let (leaves, rest) = split_once(text, b',')?;
+    let (minutes, enters) = split_once(rest, b',')?;
+    Some(MoveLine {
+        leaves: read_number(leaves)?,
+        minutes: read_number(minutes)?,
+        enters: read_number(enters)?,
+    })
 }
 
 // Reads a line, given without the byte 10 that ends it.
@@ -57,20 +50,13 @@ pub(crate) fn read_line(line: &[u8]) -> Option<PageLine<'_>>
         return Some(PageLine::Stage { marks });
     }
     if let Some(text) = line.strip_prefix(b"move=") {
-        let (leaves, minutes, enters) = read_move(text)?;
-        return Some(PageLine::Move {
-            leaves,
-            minutes,
-            enters,
-        });
+        return Some(PageLine::Move(read_move(text)?));
     }
     let text = line.strip_prefix(b"rule=")?;
     Some(PageLine::Rule { text })
 }
 
 // A line has at most one reading.
-pub fn line_reads_one_way() -> u8
+pub fn line_reads_one_way()
     ensures { OneReading write Fits }
-{
-    0
-}
+{}

@@ -13,7 +13,7 @@ use program::{EditFault, Store};
 pub const MOST_BYTES: usize = 16384;
 
 // The parts of a page, in the order in which they stand.
-#[derive(Clone, Copy, PartialEq, Eq, Debug)]
+#[derive(Clone, Copy, PartialEq, Eq, PartialOrd, Ord, Debug)]
 pub enum Part {
     Stages,
     Moves,
@@ -26,7 +26,7 @@ fn part_of(line: PageLine) -> Part
 {
     match line {
         PageLine::Stage { .. } => Part::Stages,
-        PageLine::Move { .. } => Part::Moves,
+        PageLine::Move(_) => Part::Moves,
         PageLine::Rule { .. } => Part::Rules,
     }
 }
@@ -37,7 +37,7 @@ pub fn next_line(bytes: &[u8], part: Part) -> Option<(PageLine<'_>, &[u8])>
 {
     let (line, rest) = split_once(bytes, b'\n')?;
     let line = read_line(line)?;
-    if (part_of(line) as u8) < part as u8 {
+    if part_of(line) < part {
         return None;
     }
     Some((line, rest))
@@ -54,12 +54,8 @@ fn edit<S: Store>(store: &mut S, line: PageLine) -> Result<(), EditFault>
         PageLine::Stage { marks } => {
             store.open(marks)?;
         }
-        PageLine::Move {
-            leaves,
-            minutes,
-            enters,
-        } => {
-            store.lay(leaves as usize, minutes, enters as usize)?;
+        PageLine::Move(line) => {
+            store.lay(line.leaves as usize, line.minutes, line.enters as usize)?;
         }
         PageLine::Rule { .. } => {}
     }
@@ -74,33 +70,28 @@ pub fn load<'a, S: Store>(store: &mut S, page: &'a [u8]) -> Result<&'a [u8], Pag
     if page.len() > MOST_BYTES {
         return Err(PageFault::TooLong);
     }
+    // No iterator has the lines to number them: where one ends, and what may follow, shows as it is read.
     let mut part = Part::Stages;
     let mut number = 0;
     let mut rest = page;
     let mut rules = page;
-    while rest.len() > 0 {
+    while !rest.is_empty() {
         number += 1;
-        let Some((line, after)) = next_line(rest, part) else {
-            return Err(PageFault::OutOfForm { line: number });
-        };
-        if let Err(fault) = edit(store, line) {
-            return Err(PageFault::Edit {
-                line: number,
-                fault,
-            });
-        }
+        let (line, after) = next_line(rest, part).ok_or(PageFault::OutOfForm { line: number })?;
+        edit(store, line).map_err(|fault| PageFault::Edit {
+            line: number,
+            fault,
+        })?;
         part = part_of(line);
         rest = after;
         if part != Part::Rules {
-            rules = after;
+            rules = rest;
         }
     }
     Ok(rules)
 }
 
 // A page is taken whole in one way, or refused for one line, and never both.
-pub fn one_outcome() -> u8
+pub fn one_outcome()
     ensures { OneOutcome }
-{
-    0
-}
+{}

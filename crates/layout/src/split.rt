@@ -5,10 +5,6 @@ ghost use Rattle.layout.specs.Splits.{Splits};
 pub(crate) fn split_once(bytes: &[u8], mark: u8) -> Option<(&[u8], &[u8])>
     ensures { Splits bytes.now mark result }
 {
-    for (i, b) in bytes.iter().enumerate() {
-        if *b == mark {
-            return Some((&bytes[0..i], &bytes[i + 1..]));
-        }
-    }
-    None
+    let i = bytes.iter().position(|b| *b == mark)?;
+    Some((&bytes[..i], &bytes[i + 1..]))
 }

@@ -1,4 +1,4 @@
 pub mod Segments
 pub mod Minutes
-pub mod NewStages
+pub mod TableMoves
 pub mod Views

@@ -26,7 +26,8 @@ timed_made (suc d) s n t =
     let b : min (suc d) 1 ≡ 1 = omega arith in
     rw (a, b) (timed_through d s n t)
 
-timed_moves : (ms : List Move) (n : ℕ) → map timed_move (moves_by_minute ms n) ≡ timed.minute_moves (map timed_move ms) n
+timed_moves : (ms : List Move) (n : ℕ)
+    → map timed_move (moves_by_minute ms n) ≡ timed.minute_moves (map timed_move ms) n
 timed_moves [] n = refl
 timed_moves (m ∷ ms) n =
     map-append timed_move (made_by (inside m) m n) (moves_by_minute ms (n + inside m))

@@ -1,5 +1,5 @@
 pub mod Schedules
 pub mod Minutes
-pub mod NewStages
+pub mod PieceTable
 pub mod ScheduleLimits
 pub mod ViewLimits

@@ -55,8 +55,8 @@ if_within p = cond (within p) p empty
 abbrev pub minute_view : Prog → Prog
 minute_view p = if_within (minute_prog p)
 
--- A view has the lists of the minute program, and unless that is too large, the same rules hold at the same stages as in
--- the program below, and both may be checked, or neither.
+-- A view has the lists of the minute program, and unless that is too large, the same rules hold at the same stages as
+-- in the program below, and both may be checked, or neither.
 pub record ViewOf (below view : Prog) : Type 0 where
   pub lists : view ≡ minute_view below
   pub agrees : within (minute_prog below) ≡ true → Agree (graph below) (graph view)

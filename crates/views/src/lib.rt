@@ -1,5 +1,5 @@
-// Readable programs that are not stores: a schedule, worked out from a list of segments, and the minute by minute view of
-// any readable program. Neither takes heap memory.
+// Readable programs that are not stores: a schedule, worked out from a list of segments, and the minute by minute view
+// of any readable program. Neither takes heap memory.
 
 #![tactic(auto)]
 

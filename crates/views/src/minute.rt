@@ -1,24 +1,24 @@
-// The minute by minute view of a program: each move of two minutes and more is made by pieces of one minute, through new
-// silent stages. The view holds the program below and a table of new stages, and works out each answer from these.
-mod new_stages;
+// The minute by minute view of a program: each move of two minutes and more is made by pieces of one minute, through
+// new silent stages. The view holds the program below and a table of pieces, and works out each answer from these.
+mod piece_table;
 
 ghost use Rattle.std.specs.Prelude.{◌≡◌, ◌+◌, ◌≤◌, slice_index_or};
 ghost use Rattle.program.specs.Meaning.{most_stages, no_move};
 ghost use Rattle.views.specs.Minutes.{made_by, ViewOf, MinuteGraph};
-ghost use Rattle.views.specs.NewStages.{viewed, LengthsOf};
+ghost use Rattle.views.specs.PieceTable.{viewed, LengthsOf};
 ghost use Rattle.views.specs.ViewLimits.{view_limits};
 
-use new_stages::NewStages;
+use piece_table::PieceTable;
 use program::{Kind, MOST_MOVES, MOST_STAGES, Move, NO_MOVE, NO_STAGE, Program, Stage};
 
 #[derive(Drop)]
 pub struct MinuteView<'a, P> {
     program: &'a P,
-    new_stages: NewStages,
+    pieces: PieceTable,
 }
 
 // How many stages and moves a program has.
-#[derive(Clone, Copy)]
+#[derive(Clone, Copy, Default)]
 struct Lengths {
     stages: usize,
     moves: usize,
@@ -26,31 +26,27 @@ struct Lengths {
 
 impl<'a, P: Program> MinuteView<'a, P> {
     // The view of a program. It has neither stages nor moves where the minute program has too many.
-    pub fn new(program: &'a P) -> MinuteView<'a, P>
+    pub fn new(program: &'a P) -> Self
         ensures { ViewOf (P.Program.meaning program.now)
-            (viewed result.new_stages.before (P.Program.meaning result.program.now)) }
+            (viewed result.pieces.first (P.Program.meaning result.program.now)) }
     {
         MinuteView {
             program,
-            new_stages: NewStages::of(program),
+            pieces: PieceTable::of(program),
         }
     }
 
     fn lengths(&self) -> Lengths
-        ensures { LengthsOf (viewed self.now.new_stages.before
+        ensures { LengthsOf (viewed self.now.pieces.first
             (P.Program.meaning self.now.program.now)) result }
     {
         let below = self.program.move_count();
-        let new = self.new_stages.before[below] as usize;
-        let stages = self.program.stage_count() + new;
-        let moves = below + new;
+        let moves = self.pieces.first[below] as usize;
+        let stages = self.program.stage_count() + moves - below;
         if stages <= MOST_STAGES && moves <= MOST_MOVES {
             Lengths { stages, moves }
         } else {
-            Lengths {
-                stages: 0,
-                moves: 0,
-            }
+            Lengths::default()
         }
     }
 }
@@ -78,10 +74,10 @@ fn piece(whole: Move, inside: usize, first: usize, place: usize) -> Move
     }
 }
 
-impl<'a, P: Program> Program for MinuteView<'a, P> {
-    ghost meaning = { λ x. viewed x.new_stages.before (P.Program.meaning x.program.now) };
+impl<P: Program> Program for MinuteView<'_, P> {
+    ghost meaning = { λ x. viewed x.pieces.first (P.Program.meaning x.program.now) };
 
-    ghost limits = { λ x. view_limits x.new_stages.before x.new_stages.first x.new_stages.rising
+    ghost limits = { λ x. view_limits x.pieces.first x.pieces.begins x.pieces.rising
         (P.Program.meaning x.program.now) (P.Program.limits x.program.now) };
 
     fn stage_count(&self) -> usize {
@@ -109,17 +105,15 @@ impl<'a, P: Program> Program for MinuteView<'a, P> {
         if k >= self.lengths().moves {
             return NO_MOVE;
         }
-        let old = self.new_stages.find(k, self.program.move_count());
-        let before = self.new_stages.before[old] as usize;
-        let inside = self.new_stages.before[old + 1] as usize - before;
-        let first = self.program.stage_count() + before;
-        piece(self.program.move_at(old), inside, first, k - before - old)
+        let old = self.pieces.move_of(k, self.program.move_count());
+        let begin = self.pieces.first[old] as usize;
+        let inside = self.pieces.first[old + 1] as usize - begin - 1;
+        let first = self.program.stage_count() + begin - old;
+        piece(self.program.move_at(old), inside, first, k - begin)
     }
 }
 
 // A theorem, stated by its contract: the minute program on a program's lists is the one that the theory speaks of.
-pub fn minute_graph() -> u8
+pub fn minute_graph()
     ensures { MinuteGraph }
-{
-    0
-}
+{}

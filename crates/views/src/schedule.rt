@@ -23,12 +23,11 @@ pub struct Schedule<'a> {
 }
 
 impl<'a> Schedule<'a> {
-    pub fn new(segments: &'a [Segment]) -> Schedule<'a>
+    pub fn new(segments: &'a [Segment]) -> Self
         ensures { segment_prog result.segments.now ≡ schedule segments.now }
     {
-        let count = segments.len().min(MOST_SEGMENTS);
         Schedule {
-            segments: &segments[0..count],
+            segments: &segments[..segments.len().min(MOST_SEGMENTS)],
         }
     }
 }
@@ -37,10 +36,11 @@ impl<'a> Schedule<'a> {
 fn within_a_week(minutes: u32) -> u16
     ensures { result ≡ within_a_week minutes }
 {
-    minutes.min(MOST_MINUTES as u32) as u16
+    minutes.min(u32::from(MOST_MINUTES)) as u16
 }
 
-impl<'a> Program for Schedule<'a> {
+// A schedule goes over its segments with the index: stages and moves 2 i and 2 i + 1 are those of segment i.
+impl Program for Schedule<'_> {
     ghost meaning = { λ x. segment_prog x.segments.now };
 
     ghost limits = { λ x. segment_limits x.segments.now x.few };
@@ -73,22 +73,21 @@ impl<'a> Program for Schedule<'a> {
 
     fn move_at(&self, k: usize) -> Move {
         for (i, segment) in self.segments.iter().enumerate() {
+            let ramp = 2 * i as u16;
+            let hold = ramp + 1;
             if k == 2 * i {
                 return Move {
-                    leaves: 2 * i as u16,
+                    leaves: ramp,
                     minutes: within_a_week(segment.ramp),
-                    enters: 2 * i as u16 + 1,
+                    enters: hold,
                 };
             }
             if k == 2 * i + 1 {
+                let goes_on = i + 1 < self.segments.len();
                 return Move {
-                    leaves: 2 * i as u16 + 1,
+                    leaves: hold,
                     minutes: within_a_week(segment.hold),
-                    enters: if i + 1 < self.segments.len() {
-                        2 * i as u16 + 2
-                    } else {
-                        0
-                    },
+                    enters: if goes_on { ramp + 2 } else { 0 },
                 };
             }
         }

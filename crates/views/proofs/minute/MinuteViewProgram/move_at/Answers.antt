@@ -1,54 +1,32 @@
-use Rattle.std.proofs.Common.{sym, ◌∙◌, arith}
-use Rattle.program.specs.Meaning.{no_move}
-use Rattle.std.proofs.lemmas.List.{get_or_past}
-use Rattle.views.specs.NewStages.{viewed}
-use Rattle.views.proofs.Views.{move_below, stages_below, new_move}
+use Rattle.std.proofs.Common.{◌∙◌, arith}
+use Rattle.views.proofs.Views.{piece_each, move_below, stages_below, new_move}
 use Rattle.views.proofs.minute.MinuteViewProgram.move_at.Goals as goal
 
-pub returns-then-k-lengths : goal.returns-then-k-lengths
-returns-then-k-lengths g c =
+pub move_of-old-requires-clause-real : goal.move_of-old-requires-clause-real
+move_of-old-requires-clause-real g c =
     let x = c.args.self.now in
-    sym (get_or_past (viewed x.new_stages.before (g.P.Program.meaning x.program.now)).moves c.args.k no_move
-    (omega arith))
+    move_below x.pieces (g.P.Program.meaning x.program.now) (g.met.P.Program.limits x.program.now) c.args.k
+    c.move_count.result (omega arith) c.move_count.ensures
 
-pub find-old-requires : goal.find-old-requires
-find-old-requires g c =
+pub overflow_sub-first : goal.overflow_sub-first
+overflow_sub-first g c =
     let x = c.args.self.now in
-    let t = x.new_stages in
     let h = g.met.P.Program.limits x.program.now in
-    record {
-      few = omega arith;
-      real = move_below t (g.P.Program.meaning x.program.now) h c.args.k
-          c.move_count.result (omega arith) c.move_count.ensures;
-    }
+    omega (
+      arith,
+      piece_each x.pieces (g.P.Program.meaning x.program.now) h c.move_of-old.result (omega (arith, h.few_moves)),
+    )
 
-pub overflow_add-first : goal.overflow_add-first
-overflow_add-first g c =
+pub piece-requires-clause-few : goal.piece-requires-clause-few
+piece-requires-clause-few g c =
     let x = c.args.self.now in
-    let t = x.new_stages in
-    let h = g.met.P.Program.limits x.program.now in
-    let u =
-    stages_below t (g.P.Program.meaning x.program.now) h c.args.k
-    c.find-old.result c.stage_count.result (omega arith) (omega arith) c.stage_count.ensures in
-    omega arith
-
-pub piece-requires : goal.piece-requires
-piece-requires g c =
-    let x = c.args.self.now in
-    let t = x.new_stages in
-    let h = g.met.P.Program.limits x.program.now in
-    record {
-      place = omega arith;
-      few = stages_below t (g.P.Program.meaning x.program.now) h c.args.k
-          c.find-old.result c.stage_count.result (omega arith) (omega arith) c.stage_count.ensures;
-    }
+    stages_below x.pieces (g.P.Program.meaning x.program.now) (g.met.P.Program.limits x.program.now) c.args.k
+    c.move_of-old.result c.stage_count.result (omega arith) (omega arith) c.stage_count.ensures
 
 pub returns : goal.returns
 returns g c =
     let x = c.args.self.now in
-    let t = x.new_stages in
-    let h = g.met.P.Program.limits x.program.now in
     c.piece.ensures
-    ∙ new_move t (g.P.Program.meaning x.program.now) h c.args.k
-    c.find-old.result c.stage_count.result c.move_at.result (omega arith) (omega arith)
-    c.stage_count.ensures c.move_at.ensures (omega arith) (omega arith)
+    ∙ new_move x.pieces (g.P.Program.meaning x.program.now) (g.met.P.Program.limits x.program.now) c.args.k
+    c.move_of-old.result c.stage_count.result c.move_at.result (omega arith) (omega arith)
+    c.stage_count.ensures c.move_at.ensures c.move_of-old.ensures.begun c.move_of-old.ensures.goes_on

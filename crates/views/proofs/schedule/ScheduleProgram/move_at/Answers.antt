@@ -13,16 +13,17 @@ returns-then-k-i c =
     ∙ ramp_move c.args.self.now.segments.now 0 c.loop-i.i (2 * c.loop-i.i) c.args.k (omega arith)
     (omega arith) (omega arith)
 
-pub returns-then-i-self : goal.returns-then-i-self
-returns-then-i-self c =
+pub returns-then-goes_on : goal.returns-then-goes_on
+returns-then-goes_on c =
     let gs = c.args.self.now.segments.now in
     let i = c.loop-i.i in
     ap (λ (d : ℕ). leads (2 * i + 1) d (2 * i + 2)) c.within_a_week-then-k-i-2.ensures
-    ∙ ap (λ (t : ℕ). leads (2 * i + 1) (within_a_week (at gs i).hold) t) (sym (goes_on gs (suc i) (2 * i + 2) (omega arith)))
+    ∙ ap (λ (t : ℕ). leads (2 * i + 1) (within_a_week (at gs i).hold) t)
+    (sym (goes_on gs (suc i) (2 * i + 2) (omega arith)))
     ∙ hold_move gs 0 i (2 * i) c.args.k (omega arith) (omega arith) (omega arith)
 
-pub returns-else-i-self : goal.returns-else-i-self
-returns-else-i-self c =
+pub returns-else-goes_on : goal.returns-else-goes_on
+returns-else-goes_on c =
     let gs = c.args.self.now.segments.now in
     let i = c.loop-i.i in
     ap (λ (d : ℕ). leads (2 * i + 1) d 0) c.within_a_week-then-k-i-2.ensures
