@@ -3,21 +3,23 @@ use Rattle.std.proofs.Common.{◌≡◌, ℕ, zero, suc, ◌+◌, ◌-◌, ◌*�
 use Rattle.std.proofs.Common.{drop, set, replicate, sym, refl, ap, ◌∙◌, add-zero, add_comm, mul-zero, zero-add, mul-suc}
 use Rattle.std.proofs.Common.{mul-add, arith}
 use lib.Seq.{take-append-add, drop-append-add}
-use Rattle.std.proofs.lemmas.List.{append_assoc, append-nil, length-append, length_push, length-set, length-replicate}
+use Rattle.std.proofs.lemmas.List.{append_assoc, append-nil, length-append, length_push, length-set, length-replicate, length-map, get_or-map}
 use Rattle.std.proofs.lemmas.List.{length-take-le, length-drop, take-append-drop, replicate-append-replicate, take_at}
 use Rattle.std.proofs.lemmas.List.{drop_at, drop-drop, drop-replicate, get_or-drop}
 use Rattle.std.specs.List.{remove, between}
+use Rattle.std.specs.Simd.{first_chunks}
 use Rattle.std.proofs.lemmas.List.Edits.{length-remove}
-use Rattle.stores.specs.Areas.{put, taken_out, number_at, Layout, bytes, in_use, filled, Holds}
+use Rattle.stores.specs.Areas.{put, taken_out, Layout, Lawful, bytes, in_use, filled, Holds}
 use Rattle.stores.specs.InUse.{length_in_use}
 
-pub number_at-drop : (n : ℕ) (bs : List ℕ) (i : ℕ) → number_at (drop n bs) i ≡ number_at bs (n + i)
-number_at-drop n bs i =
-    let e : n + (i + 1) ≡ (n + i) + 1 = omega arith in
-    rw (get_or-drop n bs i 0, get_or-drop n bs (i + 1) 0, e)
-
-pub number_at-drop-first : (n : ℕ) (bs : List ℕ) → number_at (drop n bs) 0 ≡ number_at bs n
-number_at-drop-first n bs = number_at-drop n bs 0 ∙ ap (number_at bs) (add-zero n)
+-- record n of an area, among its chunks of w bytes
+pub get_or-first_chunks : (w k n : ℕ) (bs : List ℕ) → n < k → get_or (first_chunks w k bs) n [] ≡ take w (drop (w * n) bs)
+get_or-first_chunks w zero n bs h = absurd (omega arith)
+get_or-first_chunks w (suc k) zero bs h = rw (mul-zero w)
+get_or-first_chunks w (suc k) (suc n) bs h =
+    let e : w * suc n ≡ w + w * n = mul-suc w n ∙ add_comm _ _ in
+    get_or-first_chunks w k n (drop w bs) (omega arith)
+    ∙ ap (take w) (drop-drop (w * n) w bs ∙ ap (λ m. drop m bs) (sym e))
 
 -- a write behind the first part of an area leaves that part
 pub put_append : (front bs : List ℕ) (at : ℕ) (cs : List ℕ)
@@ -30,11 +32,6 @@ put_append front bs at cs =
 pub put_first : (bs rest cs : List ℕ) → length bs ≡ length cs → put (bs ++ rest) 0 cs ≡ cs ++ rest
 put_first bs rest cs e = ap (λ r. cs ++ r) (drop_at bs rest (0 + length cs) (e ∙ sym (zero-add (length cs))))
 
--- Every record takes the layout's width, and is read back whatever lies behind it.
-pub record Lawful {X : Type 0} (l : Layout X) : Type 0 where
-  pub wide : (x : X) → length (l.write x) ≡ l.width
-  pub back : (x : X) (rest : List ℕ) → l.read (l.write x ++ rest) ≡ x
-
 -- An area holds n records and nothing else, and they read as xs.
 pub record Written {X : Type 0} (l : Layout X) (n : ℕ) (bs : List ℕ) (xs : List X) : Type 0 where
   pub reads : in_use l n bs ≡ xs
@@ -45,13 +42,12 @@ module _ {X : Type 0} (l : Layout X) where
   below-in_use n i bs h = rw (length_in_use l n bs) at h
 
   pub get_or-in_use : (n i : ℕ) (bs : List ℕ) (d : X) → i < n
-      → get_or (in_use l n bs) i d ≡ l.read (drop (l.width * i) bs)
-  get_or-in_use zero i bs d h = absurd (omega arith)
-  get_or-in_use (suc n) zero bs d h = rw (mul-zero l.width)
-  get_or-in_use (suc n) (suc i) bs d h =
-      let e : l.width * suc i ≡ l.width + l.width * i = mul-suc l.width i ∙ add_comm _ _ in
-      get_or-in_use n i (drop l.width bs) d (omega arith)
-      ∙ ap l.read (drop-drop (l.width * i) l.width bs ∙ ap (λ k. drop k bs) (sym e))
+      → get_or (in_use l n bs) i d ≡ l.read (take l.width (drop (l.width * i) bs))
+  get_or-in_use n i bs d h =
+      let inside : i < length (first_chunks l.width n bs) =
+      omega (arith, length_in_use l n bs, length-map (first_chunks l.width n bs) l.read) in
+      get_or-map l.read (first_chunks l.width n bs) i [] d inside
+      ∙ ap l.read (get_or-first_chunks l.width n i bs h)
 
 module _ {X : Type 0} (l : Layout X) (law : Lawful l) where
   pub in_use-bytes : (xs : List X) (rest : List ℕ) → in_use l (length xs) (bytes l xs ++ rest) ≡ xs
@@ -59,7 +55,8 @@ module _ {X : Type 0} (l : Layout X) (law : Lawful l) where
   in_use-bytes (x ∷ xs) rest =
       rw (
         append_assoc (l.write x) (bytes l xs) rest,
-        law.back x (bytes l xs ++ rest),
+        take_at (l.write x) (bytes l xs ++ rest) l.width (law.wide x),
+        law.back x,
         drop_at (l.write x) (bytes l xs ++ rest) l.width (law.wide x),
         in_use-bytes xs rest,
       )

@@ -1,8 +1,8 @@
 -- What a join finds and makes, on any program; on a tidy one it is what the step says.
-use Rattle.std.proofs.Common.{◌≡◌, ℕ, suc, ◌+◌, ◌<◌, ◌≤◌, false, ◌≢◌, length, get_or, take, set, Ok, sym, ap, ◌∙◌}
+use Rattle.std.proofs.Common.{◌≡◌, ℕ, suc, ◌+◌, ◌<◌, ◌≤◌, false, ◌≢◌, List, ◌++◌, length, get_or, take, set, Ok, sym, ap, ◌∙◌}
 use Rattle.std.proofs.Common.{subst, ⊎_elim, arith}
 use Rattle.std.specs.List.{remove}
-use Rattle.std.proofs.lemmas.List.{length-set, length-take-le, get_or-set_same, get_or-set_other}
+use Rattle.std.proofs.lemmas.List.{append-nil, drop_all, length-set, length-take-le, get_or-set_same, get_or-set_other}
 use Rattle.std.proofs.lemmas.List.Edits.{length-remove, get_or-remove_below, get_or-remove_above}
 use Rattle.std.proofs.lemmas.Bool.{cases_eq, cases_lt}
 use Rattle.program.specs.declared.Move.{Move}
@@ -17,6 +17,10 @@ use Rattle.stores.specs.declared.joint.Joint.{Joint}
 use Rattle.stores.specs.Allowed.{Ends}
 use Rattle.stores.specs.MoveEnds.{end_of, Only}
 use Rattle.stores.specs.Joints.{JoinAllowed}
+
+-- the last of a list is taken out
+pub removed_last : {X : Type 0} (xs : List X) (e : ℕ) → length xs ≡ suc e → remove xs e ≡ take e xs
+removed_last xs e one = ap (λ r. take e xs ++ r) (drop_all (suc e) xs (omega arith)) ∙ append-nil (take e xs)
 
 -- The program without stage e and without its move out, o, where m stands in the place of its move in, i.
 abbrev joined_by : Prog → ℕ → ℕ → ℕ → Move → Prog

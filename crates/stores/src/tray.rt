@@ -2,7 +2,6 @@
 // The areas hold the bytes of the records in use and zeros behind them, between any two calls.
 // They are lent together: of a struct with a single loan, the lender knows what it left when it is gone.
 pub mod areas;
-mod bytes;
 pub mod edits;
 mod records;
 

@@ -1,5 +1,4 @@
-use Rattle.std.proofs.Common.{◌<◌, refl, arith}
-use Rattle.std.proofs.lemmas.List.{length-take}
+use Rattle.std.proofs.Common.{refl}
 use Rattle.program.specs.declared.edit.Edit.TheVariants as edit
 use Rattle.program.proofs.Doing.{marks_one}
 use Rattle.program.proofs.Kept.{does_tidy}
@@ -11,9 +10,10 @@ pub returns : goal.returns
 returns c =
     let card = c.args.self.now in
     let allowed = c.in_ok-open_stage.ensures in
-    let h : c.args.stage < card.stages.count = omega (arith, simp length-take at allowed.stage) in
-    let moves = card.moves in
-    let marked = card_marked _ moves.count card.stages.records moves.records _ c.args.marks h in
-    let does = marks_one _ _ _ _ allowed.stage allowed.shown marked in
-    let tidy = does_tidy card_caps _ _ (edit.Mark c.args.stage c.args.marks) _ (λ _. does) in
-    simp c.set_marks.ensures (record { does = does; tidy = tidy; kept = refl })
+    let s = c.args.stage in
+    let m = c.args.marks in
+    let n = c.stages.inside.count in
+    let marked =
+    card_marked n s m _ card.stages card.moves _ c.stages.view_is allowed.stage c.set_marks.ensures in
+    let does = marks_one _ _ s m allowed.stage allowed.shown marked in
+    record { does = does; tidy = does_tidy card_caps _ _ (edit.Mark s m) _ (λ _. does); kept = refl }
