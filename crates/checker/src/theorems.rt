@@ -2,15 +2,11 @@
 ghost use Rattle.checker.specs.Theorems.{OutcomesExclusive, OutcomesComplete};
 
 // The cases of the outcome exclude each other.
-pub fn outcomes_exclusive() -> u8
+pub fn outcomes_exclusive()
     ensures { OutcomesExclusive }
-{
-    0
-}
+{}
 
 // They leave none out, once the text is read.
-pub fn outcomes_complete() -> u8
+pub fn outcomes_complete()
     ensures { OutcomesComplete }
-{
-    0
-}
+{}

@@ -3,3 +3,4 @@ pub mod Edits
 pub mod Graphs
 pub mod Tidy
 pub mod Steps
+pub mod Ends

@@ -8,6 +8,10 @@ pub record Prog : Type 0 where
   pub stages : List Stage
   pub moves : List Move
 
+-- The program of two lists.
+abbrev pub prog : List Stage → List Move → Prog
+prog stages moves = record { stages = stages; moves = moves }
+
 abbrev pub empty : Prog
 empty = record { stages = []; moves = [] }
 

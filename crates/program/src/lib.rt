@@ -7,8 +7,13 @@ ghost use Rattle.std.specs.Prelude.{◌≡◌, ℕ, ◌≤◌, length};
 ghost use Rattle.program.specs.Meaning.{Prog, Limits, stage_at, move_at, most_stages, most_moves};
 ghost use Rattle.program.specs.Edits.{Caps, Does, open_step, mark_step, lay_step, cut_step, join_step, fault_number};
 ghost use Rattle.program.specs.Tidy.{Tidy, StaysTidy};
+ghost use Rattle.program.specs.Ends.{end_of};
+
+use std::error::Error;
+use std::fmt;
 
 pub mod edit;
+pub mod lists;
 
 // The most stages and moves of a program, and the most minutes of a move (a week).
 pub const MOST_STAGES: usize = 1024;
@@ -18,44 +23,64 @@ pub const MOST_MOVES: usize = 4096;
 pub const MOST_MINUTES: u16 = 10080;
 
 // A stage is open, or silent: a silent one only joins the pieces of one hold, and no rule line holds there.
-#[derive(Clone, Copy, PartialEq, Eq, Debug)]
+#[derive(Clone, Copy, PartialEq, Eq, Debug, Default)]
 pub enum Kind {
+    #[default]
     Open,
     Silent,
 }
 
 // A stage bears marks out of the letters a to p, bit by bit: mark a is bit 0.
-#[derive(Clone, Copy, PartialEq, Eq, Debug)]
+#[derive(Clone, Copy, PartialEq, Eq, Debug, Default)]
 pub struct Stage {
     pub marks: u16,
     pub kind: Kind,
 }
 
 // A move leads from the stage it leaves to the stage it enters, in whole minutes.
-#[derive(Clone, Copy, PartialEq, Eq, Debug)]
+#[derive(Clone, Copy, PartialEq, Eq, Debug, Default)]
 pub struct Move {
     pub leaves: u16,
     pub minutes: u16,
     pub enters: u16,
 }
 
-// Why an edit was refused.
+// An end of a move: the stage that it leaves, or the one that it enters.
+#[derive(Clone, Copy, PartialEq, Eq, Debug)]
+pub enum End {
+    Leaves,
+    Enters,
+}
+
+impl Move {
+    // The stage at an end.
+    pub fn end(self, end: End) -> u16
+        ensures { result ≡ end_of end self }
+    {
+        match end {
+            End::Leaves => self.leaves,
+            End::Enters => self.enters,
+        }
+    }
+}
+
+// Why an edit was refused, by the number of the refusal.
 #[derive(Clone, Copy, PartialEq, Eq, Debug)]
 pub enum EditFault {
     // a stage not below the count
-    NoStage,
+    NoStage = 1,
     // a silent stage
-    SilentStage,
+    SilentStage = 2,
     // a move not below the count
-    NoMove,
+    NoMove = 3,
     // more than MOST_MINUTES, or a place of a cut above the move's minutes
-    TooLong,
+    TooLong = 4,
     // as many stages as the capacity
-    StagesFull,
+    StagesFull = 5,
     // as many moves as the capacity
-    MovesFull,
+    MovesFull = 6,
     // no stage, or an open one as the last
-    NothingToJoin,
+    NothingToJoin = 7,
 }
 
 impl EditFault {
@@ -63,17 +88,25 @@ impl EditFault {
     pub fn number(self) -> u8
         ensures { result ≡ fault_number self }
     {
-        match self {
-            EditFault::NoStage => 1,
-            EditFault::SilentStage => 2,
-            EditFault::NoMove => 3,
-            EditFault::TooLong => 4,
-            EditFault::StagesFull => 5,
-            EditFault::MovesFull => 6,
-            EditFault::NothingToJoin => 7,
-        }
+        self as u8
     }
 }
+
+impl fmt::Display for EditFault {
+    fn fmt<W: fmt::Write>(&self, f: &mut fmt::Formatter<W>) -> fmt::Result {
+        f.write_str(match self {
+            EditFault::NoStage => "there is no such stage",
+            EditFault::SilentStage => "the stage is silent",
+            EditFault::NoMove => "there is no such move",
+            EditFault::TooLong => "the move takes more than 10080 minutes",
+            EditFault::StagesFull => "there are too many stages",
+            EditFault::MovesFull => "there are too many moves",
+            EditFault::NothingToJoin => "the last stage is not a silent one",
+        })
+    }
+}
+
+impl Error for EditFault {}
 
 // What a stage or a move not below the count is answered as.
 pub const NO_STAGE: Stage = Stage {

@@ -7,36 +7,26 @@ ghost use Rattle.tctl.specs.Theorems.{CheckerRight, RefinementKeeps, TestRight, 
 ghost use Rattle.tctl.specs.Theorems.{EndlessIsGreatest};
 
 // The checker finds exactly the stages at which a rule holds.
-pub fn checker_right() -> u8
+pub fn checker_right()
     ensures { CheckerRight }
-{
-    0
-}
+{}
 
 // A refinement keeps each rule at each old stage.
-pub fn refinement_keeps() -> u8
+pub fn refinement_keeps()
     ensures { RefinementKeeps }
-{
-    0
-}
+{}
 
 // The test of a graph tells whether rules can be checked on it.
-pub fn test_right() -> u8
+pub fn test_right()
     ensures { TestRight }
-{
-    0
-}
+{}
 
 // A tally whose sums stop at a cap has the same entries, cut at the cap.
-pub fn cap_cuts() -> u8
+pub fn cap_cuts()
     ensures { CapCuts }
-{
-    0
-}
+{}
 
 // What is left of a set after as many turns as there are stages is its greatest part that an endless walk can keep to.
-pub fn endless_is_greatest() -> u8
+pub fn endless_is_greatest()
     ensures { EndlessIsGreatest }
-{
-    0
-}
+{}

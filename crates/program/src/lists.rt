@@ -1,0 +1,82 @@
+// The two lists of a program as slices, and a copy of them, for which a readable program is asked once.
+ghost use Rattle.std.specs.Prelude.{◌≡◌, ℕ, ◌<◌, ◌≤◌, length, slice_index_or};
+ghost use Rattle.program.specs.Meaning.{Limits, prog};
+
+use crate::{MOST_MOVES, MOST_STAGES, Move, NO_MOVE, NO_STAGE, Program, Stage};
+use arrayvec::ArrayVec;
+
+// The lists of a program: a readable program again.
+#[derive(Clone, Copy)]
+pub struct Lists<'a> {
+    pub stages: &'a [Stage],
+    pub moves: &'a [Move],
+    pub ghost limits: { Limits (prog stages.now moves.now) },
+}
+
+impl<'a> Program for Lists<'a> {
+    ghost meaning = { λ l. prog l.stages.now l.moves.now };
+
+    ghost limits = { λ l. l.limits };
+
+    fn stage_count(&self) -> usize {
+        self.stages.len()
+    }
+
+    fn move_count(&self) -> usize {
+        self.moves.len()
+    }
+
+    fn stage(&self, s: usize) -> Stage {
+        self.stages.get(s).copied().unwrap_or(NO_STAGE)
+    }
+
+    fn move_at(&self, k: usize) -> Move {
+        self.moves.get(k).copied().unwrap_or(NO_MOVE)
+    }
+}
+
+// A copy of the lists of a program.
+#[derive(Drop)]
+pub struct ProgramCopy {
+    pub stages: ArrayVec<Stage, MOST_STAGES>,
+    pub moves: ArrayVec<Move, MOST_MOVES>,
+    pub ghost limits: { Limits (prog stages.items moves.items) },
+}
+
+// Asks for so many records, for each once.
+fn answers<T: Copy + Default, const N: usize, F: Fn(usize) -> T>(
+    count: usize,
+    ask: F,
+) -> ArrayVec<T, N>
+    requires room { count ≤ N }
+    requires may { F.IsAlwaysCallable ask }
+    ensures all { length result.items ≡ count }
+    ensures each { (i : ℕ) → i < count → (none : T) → F.post ask i (slice_index_or result.items i none) }
+{
+    let mut records = ArrayVec::new();
+    for i in 0..count {
+        records.push(ask(i));
+    }
+    records
+}
+
+impl ProgramCopy {
+    pub fn of<P: Program>(program: &P) -> ProgramCopy
+        ensures { prog result.stages.items result.moves.items ≡ P.Program.meaning program.now }
+    {
+        ProgramCopy {
+            stages: answers(program.stage_count(), |s| program.stage(s)),
+            moves: answers(program.move_count(), |k| program.move_at(k)),
+        }
+    }
+
+    pub fn lists(&self) -> Lists<'_>
+        ensures stages { result.stages.now ≡ self.now.stages.items }
+        ensures moves { result.moves.now ≡ self.now.moves.items }
+    {
+        Lists {
+            stages: self.stages.as_slice(),
+            moves: self.moves.as_slice(),
+        }
+    }
+}
