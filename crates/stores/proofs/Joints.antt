@@ -12,10 +12,11 @@ use Rattle.program.specs.Tidy.{SilentAt, Tidy}
 use Rattle.program.proofs.Doing.{joins}
 use Rattle.program.proofs.Kept.{silent_from}
 use Rattle.program.proofs.Cuts.{into_is, out_of_is, in_and_out, join_short}
-use Rattle.stores.specs.declared.joint.End.TheVariants.{Leaves, Enters}
+use Rattle.program.specs.declared.End.TheVariants.{Leaves, Enters}
+use Rattle.program.specs.Ends.{end_of}
 use Rattle.stores.specs.declared.joint.Joint.{Joint}
 use Rattle.stores.specs.Allowed.{Ends}
-use Rattle.stores.specs.MoveEnds.{end_of, Only}
+use Rattle.stores.specs.MoveEnds.{Only}
 use Rattle.stores.specs.Joints.{JoinAllowed}
 
 -- the last of a list is taken out

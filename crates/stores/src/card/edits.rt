@@ -96,7 +96,7 @@ impl Store for Card {
     }
 
     fn join(&mut self) -> Result<usize, EditFault> {
-        let joint = find_joint(self)?;
+        let joint = find_joint(self).ok_or(EditFault::NothingToJoin)?;
         self.moves.replace(joint.into, joint.whole);
         self.moves.take_out(joint.out_of);
         self.stages.take_out(joint.stage);

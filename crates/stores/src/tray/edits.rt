@@ -154,7 +154,7 @@ impl<'a> Store for Tray<'a> {
         ensures kept { tray_room self.new ≡ tray_room self.old }
         ensures stays { SameLoan self.old self.new }
     {
-        let joint = find_joint(self)?;
+        let joint = find_joint(self).ok_or(EditFault::NothingToJoin)?;
         let stages = self.stage_count;
         let n = self.move_count;
         put(&mut self.areas.moves, joint.into, joint.whole);
