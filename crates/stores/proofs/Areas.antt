@@ -10,7 +10,7 @@ use Rattle.std.specs.List.{remove, between}
 use Rattle.std.specs.Simd.{first_chunks}
 use Rattle.std.proofs.lemmas.List.Edits.{length-remove}
 use Rattle.stores.specs.Areas.{put, taken_out, Layout, Lawful, bytes, in_use, filled, Holds}
-use Rattle.stores.specs.InUse.{length_in_use}
+use Rattle.stores.specs.InUse.{length_first_chunks, length_in_use}
 
 -- record n of an area, among its chunks of w bytes
 pub get_or-first_chunks : (w k n : ℕ) (bs : List ℕ) → n < k → get_or (first_chunks w k bs) n [] ≡ take w (drop (w * n) bs)
@@ -45,7 +45,7 @@ module _ {X : Type 0} (l : Layout X) where
       → get_or (in_use l n bs) i d ≡ l.read (take l.width (drop (l.width * i) bs))
   get_or-in_use n i bs d h =
       let inside : i < length (first_chunks l.width n bs) =
-      omega (arith, length_in_use l n bs, length-map (first_chunks l.width n bs) l.read) in
+      omega (arith, length_first_chunks l.width n bs) in
       get_or-map l.read (first_chunks l.width n bs) i [] d inside
       ∙ ap l.read (get_or-first_chunks l.width n i bs h)
 

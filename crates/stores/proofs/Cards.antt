@@ -4,15 +4,14 @@ use lib.Seq.{take-set-lt}
 use Rattle.std.proofs.lemmas.List.{get_or-take, length-take}
 use Rattle.program.specs.declared.Stage.{Stage}
 use Rattle.program.specs.declared.Move.{Move}
-use Rattle.program.specs.Meaning.{no_stage}
+use Rattle.program.specs.Meaning.{prog, no_stage}
 use Rattle.program.specs.Edits.{with_marks}
 use Rattle.program.proofs.Doing.{same_prog}
-use Rattle.stores.specs.Cards.{card_prog}
 
 -- xs are the records of a table, and ss the first n of them
 pub card_marked : (n s m : ℕ) (xs ss : List Stage) (ms : List Move) (r : Stage) → take n xs ≡ ss → s < length ss
     → r ≡ record { marks = m; kind = (get_or xs s no_stage).kind }
-    → card_prog (take n (set xs s r)) ms ≡ with_marks (card_prog ss ms) s m
+    → prog (take n (set xs s r)) ms ≡ with_marks (prog ss ms) s m
 card_marked n s m xs ss ms r e h marked =
     let below : s < n = let l = ap length e in let k = length-take n xs in omega arith in
     let kind : get_or xs s no_stage ≡ get_or ss s no_stage =

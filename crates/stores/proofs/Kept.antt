@@ -4,7 +4,7 @@ use Rattle.std.proofs.lemmas.List.{length_push, length-set, get_or_push, get_or_
 use Rattle.std.proofs.lemmas.Bool.{cases_eq}
 use Rattle.program.specs.declared.Move.{Move}
 use Rattle.program.specs.Meaning.{Prog, Fits, no_move, move_at, most_minutes}
-use Rattle.program.specs.Edits.{with_stage, with_marks, with_move, with_cut}
+use Rattle.program.specs.Edits.{Caps, with_stage, with_marks, with_move, with_cut}
 use Rattle.program.proofs.Splits.{Split, sort, minutes_up, split_from, split_to}
 use Rattle.program.proofs.Cuts.{cut_splits}
 use Rattle.stores.specs.declared.allowed.Pieces.{Pieces}
@@ -17,9 +17,9 @@ ends_kept_by_open p q m e ends =
 pub ends_kept_by_mark : (p q : Prog) (s m : ℕ) → q ≡ with_marks p s m → Ends p → Ends q
 ends_kept_by_mark p q s m e ends = subst Ends (sym e) (λ k h. simp length-set (ends k h))
 
-pub ends_kept_by_lay : (p q : Prog) (s d t : ℕ) (r : Move) → LayAllowed p s d t r → q ≡ with_move p s d t → Ends p
+pub ends_kept_by_lay : (room : ℕ) (p q : Prog) (s d t : ℕ) (r : Move) → LayAllowed room p s d t r → q ≡ with_move p s d t → Ends p
     → Ends q
-ends_kept_by_lay p q s d t r a e ends =
+ends_kept_by_lay room p q s d t r a e ends =
     let P : Move → Type 0 = Fits (length p.stages) in
     let new : Move = record { leaves = s; minutes = d; enters = t } in
     subst Ends (sym e) (λ k h.
@@ -47,8 +47,8 @@ split_short p q S short x l =
     (cases_eq o.0 S.k))
     (sort p q S x l)
 
-pub ends_kept_by_cut : (p q : Prog) (k a : ℕ) (r : Pieces) → CutAllowed p k a r → q ≡ with_cut p k a → Ends p → Ends q
-ends_kept_by_cut p q k a r allowed e ends =
+pub ends_kept_by_cut : (caps : Caps) (p q : Prog) (k a : ℕ) (r : Pieces) → CutAllowed caps p k a r → q ≡ with_cut p k a → Ends p → Ends q
+ends_kept_by_cut caps p q k a r allowed e ends =
     let c = with_cut p k a in
     let S = cut_splits p (λ m l. (ends m l).0) (λ m l. (ends m l).1) k a allowed.real allowed.inside in
     subst Ends (sym e) (λ x l. (split_from p c S x l, split_to p c S x l, split_short p c S (λ m h. (ends m h).2) x l))

@@ -6,3 +6,4 @@ pub mod Refusals
 pub mod Gaps
 pub mod Areas
 pub mod Cards
+pub mod Trays

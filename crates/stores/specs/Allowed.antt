@@ -1,5 +1,6 @@
 -- What a store allows: an edit is allowed, or the store refuses it as the edit's step says.
 use Rattle.std.specs.Prelude.{◌≡◌, ℕ, ◌-◌, ◌<◌, ◌≤◌, true, length, Result, MatchResult}
+use Rattle.program.specs.declared.Kind.TheVariants.{Open}
 use Rattle.program.specs.declared.Stage.{Stage}
 use Rattle.program.specs.declared.Move.{Move}
 use Rattle.program.specs.declared.EditFault.{EditFault}
@@ -11,14 +12,14 @@ use Rattle.stores.specs.declared.allowed.Pieces.{Pieces}
 abbrev pub Ends : Prog → Type 0
 Ends p = (k : ℕ) → k < length p.moves → Fits (length p.stages) (move_at p k)
 
--- Among as many stages as the room there is place for one more, and n is the number that it gets.
-pub record OpenAllowed (room : ℕ) (p : Prog) (n : ℕ) : Type 0 where
-  pub is : length p.stages ≡ n
-  pub fits : n < room
+-- There is place for one more stage, and r is an open one with the marks m.
+pub record OpenAllowed (room : ℕ) (p : Prog) (m : ℕ) (r : Stage) : Type 0 where
+  pub fits : length p.stages < room
+  pub is : r ≡ record { marks = m; kind = Open }
 
-abbrev pub OpenTested : ℕ → Prog → Result ℕ EditFault → Type 0
-OpenTested room p r =
-    MatchResult r (OpenAllowed room p) (λ e. (caps : Caps) (m : ℕ) → caps.stages ≡ room → open_step caps p m ≡ refused e p)
+abbrev pub OpenTested : ℕ → Prog → ℕ → Result Stage EditFault → Type 0
+OpenTested room p m r =
+    MatchResult r (OpenAllowed room p m) (λ e. (caps : Caps) → caps.stages ≡ room → open_step caps p m ≡ refused e p)
 
 -- The stage of number s is open, and r is that stage.
 pub record MarkAllowed (p : Prog) (s : ℕ) (r : Stage) : Type 0 where

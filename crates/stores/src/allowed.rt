@@ -3,15 +3,21 @@ ghost use Rattle.stores.specs.Allowed.{OpenTested, MarkTested, LayTested, CutTes
 
 use program::{EditFault, Kind, MOST_MINUTES, Move, Program, Stage};
 
-// The number of the stage that `open` may append.
-pub(crate) fn allowed_stage<P: Program>(program: &P, room: usize) -> Result<usize, EditFault>
-    ensures { OpenTested room (P.Program.meaning program.now) result }
+// The stage with those marks, where `open` may append it.
+pub(crate) fn allowed_stage<P: Program>(
+    program: &P,
+    room: usize,
+    marks: u16,
+) -> Result<Stage, EditFault>
+    ensures { OpenTested room (P.Program.meaning program.now) marks result }
 {
-    let n = program.stage_count();
-    if n >= room {
+    if program.stage_count() >= room {
         return Err(EditFault::StagesFull);
     }
-    Ok(n)
+    Ok(Stage {
+        marks,
+        kind: Kind::Open,
+    })
 }
 
 // The stage of that number, where `mark` may replace its marks.
@@ -89,15 +95,15 @@ pub(crate) fn allowed_pieces<P: Program>(
     if place > whole.minutes as u32 {
         return Err(EditFault::TooLong);
     }
-    let n = program.stage_count();
-    if n >= stage_room {
+    let stages = program.stage_count();
+    if stages >= stage_room {
         return Err(EditFault::StagesFull);
     }
     if program.move_count() >= move_room {
         return Err(EditFault::MovesFull);
     }
     let minutes = place as u16;
-    let stage = n as u16;
+    let stage = stages as u16;
     let first = Move {
         minutes,
         enters: stage,

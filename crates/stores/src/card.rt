@@ -4,8 +4,9 @@ pub mod edits;
 pub mod tables;
 
 ghost use Rattle.std.specs.Prelude.{◌≤◌, length};
+ghost use Rattle.program.specs.Meaning.{prog};
 ghost use Rattle.stores.specs.Allowed.{Ends};
-ghost use Rattle.stores.specs.Cards.{card_stages, card_moves, card_prog};
+ghost use Rattle.stores.specs.Cards.{card_stages, card_moves};
 
 use program::{Move, Stage};
 use tables::{CARD_MOVES, CARD_STAGES, Table};
@@ -16,5 +17,5 @@ pub struct Card {
     moves: Table<Move, CARD_MOVES>,
     ghost stage_room: { length stages ≤ card_stages },
     ghost move_room: { length moves ≤ card_moves },
-    ghost ends: { Ends (card_prog stages moves) },
+    ghost ends: { Ends (prog stages moves) },
 }

@@ -1,19 +1,19 @@
 // How a card is made, read and edited.
 ghost use Rattle.std.specs.Prelude.{◌≡◌, ◌<◌, ◌≤◌};
-ghost use Rattle.program.specs.Meaning.{empty};
-ghost use Rattle.stores.specs.Cards.{card_prog, card_caps};
+ghost use Rattle.program.specs.Meaning.{empty, prog};
+ghost use Rattle.stores.specs.Cards.{card_caps};
 ghost use Rattle.std.proofs.Common.{arith};
 
 use crate::allowed::{SILENT, allowed_move, allowed_pieces, allowed_stage, open_stage};
 use crate::card::Card;
 use crate::card::tables::{CARD_MOVES, CARD_STAGES, Table};
 use crate::joint::find_joint;
-use program::{EditFault, Kind, Move, NO_MOVE, NO_STAGE, Program, Stage, Store};
+use program::{EditFault, Move, NO_MOVE, NO_STAGE, Program, Stage, Store};
 
 impl Card {
     // A card with no stage and no move.
     pub fn new() -> Card
-        ensures { card_prog result.stages result.moves ≡ empty }
+        ensures { prog result.stages result.moves ≡ empty }
     {
         Card {
             stages: Table::new(NO_STAGE),
@@ -23,7 +23,7 @@ impl Card {
 }
 
 impl Program for Card {
-    ghost meaning = { λ c. card_prog c.stages c.moves };
+    ghost meaning = { λ c. prog c.stages c.moves };
 
     ghost limits = { λ x. record {
       few_stages = omega arith;
@@ -69,11 +69,8 @@ impl Store for Card {
     }
 
     fn open(&mut self, marks: u16) -> Result<usize, EditFault> {
-        allowed_stage(self, CARD_STAGES)?;
-        Ok(self.stages.push(Stage {
-            marks,
-            kind: Kind::Open,
-        }))
+        let opened = allowed_stage(self, CARD_STAGES, marks)?;
+        Ok(self.stages.push(opened))
     }
 
     fn mark(&mut self, stage: usize, marks: u16) -> Result<usize, EditFault> {

@@ -14,7 +14,7 @@ use crate::tray::Tray;
 use crate::tray::areas::Areas;
 use crate::tray::records::{MOVE_BYTES, STAGE_BYTES, put, read, take_out};
 use program::{
-    EditFault, Kind, MOST_MOVES, MOST_STAGES, Move, NO_MOVE, NO_STAGE, Program, Stage, Store,
+    EditFault, MOST_MOVES, MOST_STAGES, Move, NO_MOVE, NO_STAGE, Program, Stage, Store,
 };
 
 impl<'a> Tray<'a> {
@@ -43,6 +43,7 @@ impl<'a> Tray<'a> {
     }
 }
 
+#[tactic(auto, using(crate::specs::InUse::stages_counted, crate::specs::InUse::moves_counted))]
 impl<'a> Program for Tray<'a> {
     ghost meaning = { tray_meaning };
 
@@ -77,6 +78,7 @@ impl<'a> Program for Tray<'a> {
     }
 }
 
+#[tactic(auto, using(crate::specs::InUse::stages_counted, crate::specs::InUse::moves_counted))]
 impl<'a> Store for Tray<'a> {
     ghost room = { tray_room };
 
@@ -96,11 +98,8 @@ impl<'a> Store for Tray<'a> {
         ensures kept { tray_room self.new ≡ tray_room self.old }
         ensures stays { SameLoan self.old self.new }
     {
-        let n = allowed_stage(self, self.stage_capacity())?;
-        let opened = Stage {
-            marks,
-            kind: Kind::Open,
-        };
+        let opened = allowed_stage(self, self.stage_capacity(), marks)?;
+        let n = self.stage_count;
         put(&mut self.areas.stages, n, opened);
         self.stage_count = n + 1;
         Ok(n)
