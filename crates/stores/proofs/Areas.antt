@@ -1,11 +1,11 @@
 -- Byte areas: what a write at a place and a record taken out leave, and what the records of an area then read as.
 use Rattle.std.proofs.Common.{◌≡◌, ℕ, zero, suc, ◌+◌, ◌-◌, ◌*◌, ◌<◌, ◌≤◌, List, [], ◌∷◌, ◌++◌, length, get_or, take}
-use Rattle.std.proofs.Common.{drop, set, replicate, sym, refl, ap, ◌∙◌, add-zero, add_comm, mul-zero, zero-add, mul-suc}
+use Rattle.std.proofs.Common.{drop, set, replicate, sym, refl, ap, ◌∙◌, add_comm, mul-zero, zero-add, mul-suc}
 use Rattle.std.proofs.Common.{mul-add, arith}
 use lib.Seq.{take-append-add, drop-append-add}
-use Rattle.std.proofs.lemmas.List.{append_assoc, append-nil, length-append, length_push, length-set, length-replicate, length-map, get_or-map}
+use Rattle.std.proofs.lemmas.List.{append_assoc, append-nil, length-append, length_push, length-set, length-replicate, get_or-map}
 use Rattle.std.proofs.lemmas.List.{length-take-le, length-drop, take-append-drop, replicate-append-replicate, take_at}
-use Rattle.std.proofs.lemmas.List.{drop_at, drop-drop, drop-replicate, get_or-drop}
+use Rattle.std.proofs.lemmas.List.{drop_at, drop-drop, drop-replicate}
 use Rattle.std.specs.List.{remove, between}
 use Rattle.std.specs.Simd.{first_chunks}
 use Rattle.std.proofs.lemmas.List.Edits.{length-remove}

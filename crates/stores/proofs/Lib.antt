@@ -1,4 +1,3 @@
-pub mod Tables
 pub mod Kept
 pub mod Pieces
 pub mod Joints

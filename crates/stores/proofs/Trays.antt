@@ -1,5 +1,5 @@
 -- What the write of a record, and a record taken out, do to the program that a tray holds.
-use Rattle.std.proofs.Common.{◌≡◌, ℕ, suc, ◌+◌, ◌*◌, ◌<◌, List, [], ◌∷◌, ◌++◌, set, vec_items, vec_len, refl, ap, ◌∙◌, arith}
+use Rattle.std.proofs.Common.{◌≡◌, ℕ, suc, ◌+◌, ◌*◌, ◌<◌, List, [], ◌∷◌, ◌++◌, set, vec_len, refl, ap, ◌∙◌, arith}
 use Rattle.std.specs.List.{remove}
 use Rattle.program.specs.declared.Kind.TheVariants.{Open, Silent}
 use Rattle.program.specs.declared.Stage.{Stage}

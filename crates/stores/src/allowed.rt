@@ -6,12 +6,12 @@ use program::{EditFault, Kind, MOST_MINUTES, Move, Program, Stage};
 // The stage with those marks, where `open` may append it.
 pub(crate) fn allowed_stage<P: Program>(
     program: &P,
-    room: usize,
+    capacity: usize,
     marks: u16,
 ) -> Result<Stage, EditFault>
-    ensures { OpenTested room (P.Program.meaning program.now) marks result }
+    ensures { OpenTested capacity (P.Program.meaning program.now) marks result }
 {
-    if program.stage_count() >= room {
+    if program.stage_count() >= capacity {
         return Err(EditFault::StagesFull);
     }
     Ok(Stage {
@@ -37,12 +37,12 @@ pub(crate) fn open_stage<P: Program>(program: &P, stage: usize) -> Result<Stage,
 // The move with those ends and minutes, where `lay` may append it.
 pub(crate) fn allowed_move<P: Program>(
     program: &P,
-    room: usize,
+    capacity: usize,
     leaves: usize,
     minutes: u32,
     enters: usize,
 ) -> Result<Move, EditFault>
-    ensures { LayTested room (P.Program.meaning program.now) leaves minutes enters result }
+    ensures { LayTested capacity (P.Program.meaning program.now) leaves minutes enters result }
 {
     let stages = program.stage_count();
     if leaves >= stages || enters >= stages {
@@ -54,7 +54,7 @@ pub(crate) fn allowed_move<P: Program>(
     if minutes > MOST_MINUTES as u32 {
         return Err(EditFault::TooLong);
     }
-    if program.move_count() >= room {
+    if program.move_count() >= capacity {
         return Err(EditFault::MovesFull);
     }
     Ok(Move {
@@ -80,12 +80,12 @@ pub struct Pieces {
 // The pieces of move k, where `cut` may cut it `place` minutes after it begins, at a new last stage.
 pub(crate) fn allowed_pieces<P: Program>(
     program: &P,
-    stage_room: usize,
-    move_room: usize,
+    stage_capacity: usize,
+    move_capacity: usize,
     k: usize,
     place: u32,
 ) -> Result<Pieces, EditFault>
-    ensures { CutTested (record { stages = stage_room; moves = move_room }) (P.Program.meaning program.now) k place
+    ensures { CutTested (record { stages = stage_capacity; moves = move_capacity }) (P.Program.meaning program.now) k place
         result }
 {
     if k >= program.move_count() {
@@ -96,10 +96,10 @@ pub(crate) fn allowed_pieces<P: Program>(
         return Err(EditFault::TooLong);
     }
     let stages = program.stage_count();
-    if stages >= stage_room {
+    if stages >= stage_capacity {
         return Err(EditFault::StagesFull);
     }
-    if program.move_count() >= move_room {
+    if program.move_count() >= move_capacity {
         return Err(EditFault::MovesFull);
     }
     let minutes = place as u16;

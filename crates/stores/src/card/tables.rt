@@ -9,8 +9,8 @@ pub const CARD_STAGES: usize = 64;
 pub const CARD_MOVES: usize = 256;
 
 #[derive(Drop)]
-pub struct Table<T: Copy, const N: usize> {
-    pub(crate) count: usize,
+pub(crate) struct Table<T: Copy, const N: usize> {
+    count: usize,
     pub(crate) records: [T; N],
 }
 
@@ -26,7 +26,7 @@ impl<T: Copy, const N: usize> Model for Table<T, N> {
 
 impl<T: Copy, const N: usize> Table<T, N> {
     // A table with no record in use; every place holds `none`.
-    pub fn new(none: T) -> Table<T, N>
+    pub(crate) fn new(none: T) -> Table<T, N>
         ensures { result ≡ [] }
     {
         Table {
@@ -36,21 +36,21 @@ impl<T: Copy, const N: usize> Table<T, N> {
     }
 
     // How many records are in use.
-    pub fn count(&self) -> usize
+    pub(crate) fn count(&self) -> usize
         ensures { result ≡ length self.now }
     {
         self.count
     }
 
     // The records in use.
-    pub fn in_use(&self) -> &[T]
+    pub(crate) fn in_use(&self) -> &[T]
         ensures { result.now ≡ self.now }
     {
         &self.records[..self.count]
     }
 
     // Appends a record, and answers its number.
-    pub fn push(&mut self, added: T) -> usize
+    pub(crate) fn push(&mut self, added: T) -> usize
         requires { length self.old < N }
         ensures number { result ≡ length self.old }
         ensures appended { self.new ≡ self.old ++ added ∷ [] }
@@ -62,7 +62,7 @@ impl<T: Copy, const N: usize> Table<T, N> {
     }
 
     // Writes a record over the one of number k.
-    pub fn replace(&mut self, k: usize, new: T)
+    pub(crate) fn replace(&mut self, k: usize, new: T)
         requires { k < length self.old }
         ensures { self.new ≡ slice_set self.old k new }
     {
@@ -71,7 +71,7 @@ impl<T: Copy, const N: usize> Table<T, N> {
     }
 
     // Takes record k out; later records stand one place lower.
-    pub fn take_out(&mut self, k: usize)
+    pub(crate) fn take_out(&mut self, k: usize)
         requires { k < length self.old }
         ensures { self.new ≡ remove self.old k }
     {

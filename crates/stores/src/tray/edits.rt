@@ -13,9 +13,7 @@ use crate::joint::find_joint;
 use crate::tray::Tray;
 use crate::tray::areas::Areas;
 use crate::tray::records::{MOVE_BYTES, STAGE_BYTES, put, read, take_out};
-use program::{
-    EditFault, MOST_MOVES, MOST_STAGES, Move, NO_MOVE, NO_STAGE, Program, Stage, Store,
-};
+use program::{EditFault, MOST_MOVES, MOST_STAGES, Move, NO_MOVE, NO_STAGE, Program, Stage, Store};
 
 impl<'a> Tray<'a> {
     // A tray with no stage and no move: every byte of the areas is set to 0.
@@ -135,8 +133,7 @@ impl<'a> Store for Tray<'a> {
         ensures kept { tray_room self.new ≡ tray_room self.old }
         ensures stays { SameLoan self.old self.new }
     {
-        let pieces =
-            allowed_pieces(self, self.stage_capacity(), self.move_capacity(), k, place)?;
+        let pieces = allowed_pieces(self, self.stage_capacity(), self.move_capacity(), k, place)?;
         let n = self.move_count;
         put(&mut self.areas.moves, k, pieces.first);
         put(&mut self.areas.moves, n, pieces.second);

@@ -69,7 +69,16 @@ impl Record<MOVE_BYTES> for Move {
     }
 
     fn from_bytes(bytes: &[u8; MOVE_BYTES]) -> Move {
-        let [leaves, leaves_high, enters, enters_high, minutes, minutes_high, _, _] = *bytes;
+        let [
+            leaves,
+            leaves_high,
+            enters,
+            enters_high,
+            minutes,
+            minutes_high,
+            _,
+            _,
+        ] = *bytes;
         Move {
             leaves: u16::from_le_bytes([leaves, leaves_high]),
             minutes: u16::from_le_bytes([minutes, minutes_high]),

@@ -1,4 +1,4 @@
-use Rattle.std.proofs.Common.{refl, arith, rules}
+use Rattle.std.proofs.Common.{refl}
 use Rattle.program.specs.declared.edit.Edit.TheVariants as edit
 use Rattle.program.proofs.Doing.{cuts}
 use Rattle.program.proofs.Kept.{does_tidy}

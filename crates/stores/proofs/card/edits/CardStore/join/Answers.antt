@@ -1,4 +1,4 @@
-use Rattle.std.proofs.Common.{◌≡◌, ◌<◌, ◌∙◌, ap, length, refl, arith}
+use Rattle.std.proofs.Common.{◌∙◌, ap, refl}
 use Rattle.std.specs.List.{remove}
 use Rattle.std.proofs.lemmas.Option.{MatchOption-at_some}
 use Rattle.program.specs.declared.edit.Edit.TheVariants as edit
@@ -6,7 +6,7 @@ use Rattle.program.proofs.Doing.{same_prog}
 use Rattle.program.proofs.Kept.{does_tidy}
 use Rattle.stores.specs.Joints.{JoinAllowed}
 use Rattle.stores.specs.Cards.{card_caps}
-use Rattle.stores.proofs.Joints.{joined, joined_does, ends_kept_by_join, removed_last}
+use Rattle.stores.proofs.Joints.{joined_does, ends_kept_by_join, removed_last}
 use Rattle.stores.proofs.card.edits.CardStore.join.Goals as goal
 
 pub invariant_of-self-clause-ends : goal.invariant_of-self-clause-ends

@@ -1,4 +1,4 @@
-use Rattle.std.proofs.Common.{◌≡◌, sym, refl, arith}
+use Rattle.std.proofs.Common.{sym, arith}
 use Rattle.std.proofs.lemmas.Result.{err_from_is_err_and}
 use Rattle.program.specs.declared.edit.Edit.TheVariants as edit
 use Rattle.program.proofs.Doing.{opens}
@@ -6,7 +6,7 @@ use Rattle.program.proofs.Kept.{does_tidy}
 use Rattle.stores.specs.Records.{stage_layout}
 use Rattle.stores.specs.Trays.{areas_room}
 use Rattle.stores.specs.InUse.{length_in_use}
-use Rattle.stores.proofs.Trays.{tray_opened, same_room}
+use Rattle.stores.proofs.Trays.{tray_opened}
 use Rattle.stores.proofs.Refusals.{refuses}
 use Rattle.stores.proofs.Kept.{ends_kept_by_open}
 use Rattle.stores.proofs.tray.edits.TrayStore.open.Goals as goal
