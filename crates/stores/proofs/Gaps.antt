@@ -5,6 +5,8 @@ use borrow.Rule.Slice.PartMut.{put_mid}
 use Rattle.std.specs.List.{copy_within, remove, between}
 use Rattle.std.proofs.lemmas.List.{append_assoc, length-append, length-drop, length-take, length-replicate, drop-drop, drop-take, take-take}
 use Rattle.std.proofs.lemmas.List.Edits.{take-paste, drop-paste}
+use Rattle.std.proofs.lemmas.Slice.{between_is}
+use Rattle.std.proofs.lemmas.Grind.{common_steps}
 use Rattle.stores.specs.Areas.{taken_out}
 
 module _ {X : Type 0} (xs : List X) (at from to : ℕ) (down : at ≤ from) (some : from ≤ to) (inside : to ≤ length xs) where
@@ -25,13 +27,8 @@ module _ {X : Type 0} (xs : List X) (at from to : ℕ) (down : at ≤ from) (som
 pub take_copied_removed : {X : Type 0} (xs : List X) (n k : ℕ) → k < n → n ≤ length xs
     → take (n - 1) (copy_within xs (k + 1) n k) ≡ remove (take n xs) k
 take_copied_removed xs n k below inside =
-    let next : k + 1 ≡ suc k = omega arith in
-    let all : suc k + (n - (k + 1)) ≡ n = omega arith in
-    take_copied xs k (k + 1) n (omega arith) (omega arith) inside (n - 1) (omega arith)
-    ∙ ap (λ m. take k xs ++ take (n - (k + 1)) (drop m xs)) next
-    ∙ ap (λ ys. take k xs ++ ys) (sym (drop-take (suc k) (n - (k + 1)) xs))
-    ∙ ap (λ m. take k xs ++ drop (suc k) (take m xs)) all
-    ∙ ap (λ ys. ys ++ drop (suc k) (take n xs)) (sym (take-take k n xs (omega arith)))
+    let copied = take_copied xs k (k + 1) n (omega arith) (omega arith) inside (n - 1) (omega arith) in
+    grind (arith, common_steps, between_is, take-take)
 
 -- the last place is the last of n
 pub last_place : (w n k : ℕ) → k < n → w * (n - 1) + w ≡ w * n
@@ -58,7 +55,4 @@ copied_taken_out bs w n k below inside =
     let down : w * k ≤ w * (k + 1) = omega arith in
     let front = take_copied bs (w * k) (w * (k + 1)) (w * n) down some inside (w * (n - 1)) place in
     let behind = drop_copied bs (w * k) (w * (k + 1)) (w * n) down some inside (w * (n - 1)) place in
-    rw (front, behind)
-    (append_assoc (take (w * k) bs) _ _
-    ∙ ap (λ r. take (w * k) bs ++ (between (w * (k + 1)) (w * n) bs ++ (replicate w 0 ++ r)))
-    (drop-drop w (w * (n - 1)) bs ∙ ap (λ m. drop m bs) last))
+    rw (front, behind, append_assoc (take (w * k) bs), drop-drop w (w * (n - 1)) bs, last)
