@@ -3,8 +3,8 @@ use Rattle.std.proofs.Common.{◌≡◌, ℕ, zero, suc, ◌+◌, ◌-◌, ◌*�
 use Rattle.std.proofs.Common.{drop, set, replicate, sym, refl, ap, ◌∙◌, add_comm, mul-zero, zero-add, mul-suc}
 use Rattle.std.proofs.Common.{mul-add, arith}
 use lib.Seq.{take-append-add, drop-append-add}
-use Rattle.std.proofs.lemmas.List.{append_assoc, append-nil, length-append, length_push, length-set, length-replicate, get_or-map}
-use Rattle.std.proofs.lemmas.List.{length-take-le, length-drop, take-append-drop, replicate-append-replicate, take_at}
+use Rattle.std.proofs.lemmas.List.{append_assoc, append-nil, length-append, length_push, length-set, length-replicate}
+use Rattle.std.proofs.lemmas.List.{get_or-map, length-take-le, length-drop, take-append-drop, replicate-append-replicate, take_at}
 use Rattle.std.proofs.lemmas.List.{drop_at, drop-drop, drop-replicate}
 use Rattle.std.proofs.lemmas.List.Concat.{flat_map-append}
 use Rattle.std.proofs.lemmas.Grind.{common_steps}
@@ -15,7 +15,8 @@ use Rattle.stores.specs.Areas.{put, taken_out, Layout, Lawful, bytes, in_use, fi
 use Rattle.stores.specs.InUse.{length_first_chunks, length_in_use}
 
 -- record n of an area, among its chunks of w bytes
-pub get_or-first_chunks : (w k n : ℕ) (bs : List ℕ) → n < k → get_or (first_chunks w k bs) n [] ≡ take w (drop (w * n) bs)
+pub get_or-first_chunks : (w k n : ℕ) (bs : List ℕ) → n < k
+    → get_or (first_chunks w k bs) n [] ≡ take w (drop (w * n) bs)
 get_or-first_chunks w zero n bs h = absurd (omega arith)
 get_or-first_chunks w (suc k) zero bs h = rw (mul-zero w)
 get_or-first_chunks w (suc k) (suc n) bs h =

@@ -3,19 +3,23 @@ use Rattle.std.proofs.Common.{◌≡◌, ℕ, suc, ◌+◌, ◌-◌, ◌*◌, �
 use Rattle.std.proofs.Common.{◌∙◌, mul-le-mul_left, mul-suc, arith}
 use borrow.Rule.Slice.PartMut.{put_mid}
 use Rattle.std.specs.List.{copy_within, remove, between}
-use Rattle.std.proofs.lemmas.List.{append_assoc, length-append, length-drop, length-take, length-replicate, drop-drop, drop-take, take-take}
+use Rattle.std.proofs.lemmas.List.{append_assoc, length-append, length-drop, length-take, length-replicate, drop-drop}
+use Rattle.std.proofs.lemmas.List.{take-take}
 use Rattle.std.proofs.lemmas.List.Edits.{take-paste, drop-paste}
 use Rattle.std.proofs.lemmas.Slice.{between_is}
 use Rattle.std.proofs.lemmas.Grind.{common_steps}
 use Rattle.stores.specs.Areas.{taken_out}
 
-module _ {X : Type 0} (xs : List X) (at from to : ℕ) (down : at ≤ from) (some : from ≤ to) (inside : to ≤ length xs) where
+module _ {X : Type 0} (xs : List X) (at from to : ℕ)
+    (down : at ≤ from) (some : from ≤ to) (inside : to ≤ length xs) where
   enough : to - from ≤ length (drop from xs)
   enough = simp length-drop (omega arith)
 
-  take_copied : (n : ℕ) → at + (to - from) ≡ n → take n (copy_within xs from to at) ≡ take at xs ++ between from to xs
+  take_copied : (n : ℕ) → at + (to - from) ≡ n
+      → take n (copy_within xs from to at) ≡ take at xs ++ between from to xs
   take_copied n e =
-      ap (λ m. take m (copy_within xs from to at)) (sym e) ∙ take-paste xs at (drop from xs) (to - from) (omega arith) enough
+      ap (λ m. take m (copy_within xs from to at)) (sym e)
+      ∙ take-paste xs at (drop from xs) (to - from) (omega arith) enough
 
   drop_copied : (n : ℕ) → at + (to - from) ≡ n → drop n (copy_within xs from to at) ≡ drop n xs
   drop_copied n e =

@@ -1,12 +1,12 @@
 -- What a join finds and makes, on any program; on a tidy one it is what the step says.
-use Rattle.std.proofs.Common.{◌≡◌, ℕ, suc, ◌+◌, ◌<◌, ◌≤◌, false, ◌≢◌, List, ◌++◌, length, get_or, take, set, Ok, sym, ap, ◌∙◌}
-use Rattle.std.proofs.Common.{subst, ⊎_elim, arith}
+use Rattle.std.proofs.Common.{◌≡◌, ℕ, suc, ◌+◌, ◌<◌, ◌≤◌, false, List, ◌++◌, length, take, set, Ok, sym}
+use Rattle.std.proofs.Common.{ap, ◌∙◌, subst, arith}
 use Rattle.std.specs.List.{remove}
-use Rattle.std.proofs.lemmas.List.{append-nil, drop_all, length-set, length-take-le, get_or-set_same, get_or-set_other}
+use Rattle.std.proofs.lemmas.List.{append-nil, drop_all, length-take-le}
 use Rattle.std.proofs.lemmas.List.Edits.{length-remove, get_or-remove_below, get_or-remove_above}
 use Rattle.std.proofs.lemmas.Grind.{common_steps}
 use Rattle.program.specs.declared.Move.{Move}
-use Rattle.program.specs.Meaning.{Prog, Fits, no_move, stage_at, move_at, most_minutes}
+use Rattle.program.specs.Meaning.{Prog, Fits, stage_at, move_at, most_minutes}
 use Rattle.program.specs.Edits.{Does, is_open, leads, last_stage, move_into, move_out_of, with_join, join_step}
 use Rattle.program.specs.Tidy.{SilentAt, Tidy}
 use Rattle.program.proofs.Doing.{joins}

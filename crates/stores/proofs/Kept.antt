@@ -1,5 +1,5 @@
 -- Every edit keeps that each move has its ends among the stages.
-use Rattle.std.proofs.Common.{◌≡◌, ℕ, sym, subst, arith, rules}
+use Rattle.std.proofs.Common.{◌≡◌, ℕ, sym, subst, arith}
 use Rattle.std.proofs.lemmas.Grind.{common_steps}
 use Rattle.program.specs.declared.Move.{Move}
 use Rattle.program.specs.Meaning.{Prog}

@@ -1,5 +1,5 @@
 -- What the write of a record, and a record taken out, do to the program that a tray holds.
-use Rattle.std.proofs.Common.{◌≡◌, ℕ, suc, ◌+◌, ◌*◌, ◌<◌, List, [], ◌∷◌, ◌++◌, set, vec_len, refl, ap, ◌∙◌, arith}
+use Rattle.std.proofs.Common.{◌≡◌, ℕ, suc, ◌+◌, ◌*◌, ◌<◌, List, [], ◌∷◌, ◌++◌, set, refl, ap, ◌∙◌, arith}
 use Rattle.std.specs.List.{remove}
 use Rattle.program.specs.declared.Kind.TheVariants.{Open, Silent}
 use Rattle.program.specs.declared.Stage.{Stage}
@@ -9,20 +9,12 @@ use Rattle.program.specs.Edits.{Caps, with_stage, with_marks, with_move, with_cu
 use Rattle.program.proofs.Doing.{same_prog}
 use Rattle.stores.specs.declared.allowed.Pieces.{Pieces}
 use Rattle.stores.specs.declared.joint.Joint.{Joint}
-use Rattle.stores.specs.declared.tray.areas.Areas.{Areas}
 use Rattle.stores.specs.Allowed.{CutAllowed}
 use Rattle.stores.specs.Areas.{put, taken_out, in_use, Holds}
 use Rattle.stores.specs.Records.{stage_record, move_record, stage_layout, move_layout, stage_lawful, move_lawful}
-use Rattle.stores.specs.Trays.{areas_room, room_for_stages, room_for_moves, SameLengths}
 use Rattle.stores.specs.InUse.{length_in_use}
 use Rattle.stores.proofs.Areas.{record_appended, record_replaced, record_taken}
-use Rattle.stores.proofs.Pieces.{pieces-with_cut}
 use Rattle.stores.proofs.Joints.{joined, removed_last}
-
-pub same_room : (a b : Areas) → SameLengths a b → areas_room b ≡ areas_room a
-same_room a b e =
-    ap (λ n. record { stages = room_for_stages n; moves = room_for_moves (vec_len b.moves) }) e.stages
-    ∙ ap (λ n. record { stages = room_for_stages (vec_len a.stages); moves = room_for_moves n }) e.moves
 
 -- The program in the bytes of two areas, with n stages and k moves in use.
 abbrev pub held : ℕ → ℕ → List ℕ → List ℕ → Prog
@@ -67,11 +59,10 @@ module _ (n k : ℕ) (bs cs : List ℕ) (hs : Holds stage_layout n bs) (hm : Hol
       let b = record_appended move_layout move_lawful k one a.holds r.second two put_second in
       let w = record_appended stage_layout stage_lawful n bs hs _ new put_stage in
       let moves = b.reads ∙ ap (λ ms. ms ++ (r.second ∷ [])) a.reads in
-      record {
-        is = pieces-with_cut caps _ _ i t r allowed w.reads moves;
-        stage_area = w.holds;
-        move_area = b.holds;
-      }
+      let p : Prog = held n k bs cs in
+      let pieces : set p.moves i r.first ++ (r.second ∷ []) ≡ (with_cut p i t).moves =
+      cc (allowed.first, allowed.second) in
+      record { is = same_prog _ _ w.reads (moves ∙ pieces); stage_area = w.holds; move_area = b.holds }
 
   pub tray_joined : (j : Joint) (m : ℕ) (one two new : List ℕ) → n ≡ suc j.stage → k ≡ suc m → j.into < k
       → j.out_of < k → one ≡ put cs (8 * j.into) (move_record j.whole) → two ≡ taken_out 8 k j.out_of one

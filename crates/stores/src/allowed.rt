@@ -85,8 +85,8 @@ pub(crate) fn allowed_pieces<P: Program>(
     k: usize,
     place: u32,
 ) -> Result<Pieces, EditFault>
-    ensures { CutTested (record { stages = stage_capacity; moves = move_capacity }) (P.Program.meaning program.now) k place
-        result }
+    ensures { CutTested (record { stages = stage_capacity; moves = move_capacity })
+        (P.Program.meaning program.now) k place result }
 {
     if k >= program.move_count() {
         return Err(EditFault::NoMove);

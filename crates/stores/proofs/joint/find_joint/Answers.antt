@@ -32,6 +32,7 @@ returns-then-into-out_of g c t =
     elim c.then-into-out_of.branch [
       | then-into-out_of-via-then-into-out_of w ↦
           tidy_apart p s _ _ last hushed enters leaves t w.if-into-out_of.true
-      | then-into-out_of-via-else-into-out_of+then-minutes-gt-MOST_MINUTES w ↦ omega (arith, w.if-minutes-gt-MOST_MINUTES.true)
+      | then-into-out_of-via-else-into-out_of+then-minutes-gt-MOST_MINUTES w ↦
+          omega (arith, w.if-minutes-gt-MOST_MINUTES.true)
     ] in
     absurd never

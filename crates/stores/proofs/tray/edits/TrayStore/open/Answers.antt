@@ -25,7 +25,8 @@ invariant_of-self-clause-stage_area c =
 pub invariant_of-self-clause-ends : goal.invariant_of-self-clause-ends
 invariant_of-self-clause-ends c =
     let tray = c.args.self.now in
-    let opened = tray_opened _ _ _ _ tray.stage_area tray.move_area _ _ _ c.in_ok-opened.ensures.is c.put.ensures.items in
+    let allowed = c.in_ok-opened.ensures in
+    let opened = tray_opened _ _ _ _ tray.stage_area tray.move_area _ _ _ allowed.is c.put.ensures.items in
     ends_kept_by_open _ _ c.args.marks opened.is tray.ends
 
 pub returns-clause-does : goal.returns-clause-does
