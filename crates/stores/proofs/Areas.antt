@@ -4,8 +4,8 @@ use Rattle.std.proofs.Common.{drop, set, replicate, sym, refl, ap, ◌∙◌, ad
 use Rattle.std.proofs.Common.{mul-add, arith}
 use lib.Seq.{take-append-add, drop-append-add}
 use Rattle.std.proofs.lemmas.List.{append_assoc, append-nil, length-append, length_push, length-set, length-replicate}
-use Rattle.std.proofs.lemmas.List.{get_or-map, length-take-le, length-drop, take-append-drop, replicate-append-replicate, take_at}
-use Rattle.std.proofs.lemmas.List.{drop_at, drop-drop, drop-replicate}
+use Rattle.std.proofs.lemmas.List.{get_or-map, length-take-le, length-drop, take-append-drop, take_at, drop_at}
+use Rattle.std.proofs.lemmas.List.{drop-drop, drop-replicate, replicate-append-replicate}
 use Rattle.std.proofs.lemmas.List.Concat.{flat_map-append}
 use Rattle.std.proofs.lemmas.Grind.{common_steps}
 use Rattle.std.specs.List.{remove, between}

@@ -13,9 +13,9 @@ ends_kept_by_open p q m e ends = subst Ends (sym e) (λ k h. let old = ends k in
 pub ends_kept_by_mark : (p q : Prog) (s m : ℕ) → q ≡ with_marks p s m → Ends p → Ends q
 ends_kept_by_mark p q s m e ends = subst Ends (sym e) (λ k h. let old = ends k in grind (arith, common_steps))
 
-pub ends_kept_by_lay : (room : ℕ) (p q : Prog) (s d t : ℕ) (r : Move) → LayAllowed room p s d t r
+pub ends_kept_by_lay : (capacity : ℕ) (p q : Prog) (s d t : ℕ) (r : Move) → LayAllowed capacity p s d t r
     → q ≡ with_move p s d t → Ends p → Ends q
-ends_kept_by_lay room p q s d t r a e ends =
+ends_kept_by_lay capacity p q s d t r a e ends =
     subst Ends (sym e) (λ k h. let old = ends k in grind (arith, common_steps))
 
 pub ends_kept_by_cut : (caps : Caps) (p q : Prog) (k a : ℕ) (r : Pieces) → CutAllowed caps p k a r

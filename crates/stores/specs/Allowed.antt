@@ -13,13 +13,14 @@ abbrev pub Ends : Prog → Type 0
 Ends p = (k : ℕ) → k < length p.moves → Fits (length p.stages) (move_at p k)
 
 -- There is place for one more stage, and r is an open one with the marks m.
-pub record OpenAllowed (room : ℕ) (p : Prog) (m : ℕ) (r : Stage) : Type 0 where
-  pub fits : length p.stages < room
+pub record OpenAllowed (capacity : ℕ) (p : Prog) (m : ℕ) (r : Stage) : Type 0 where
+  pub fits : length p.stages < capacity
   pub is : r ≡ record { marks = m; kind = Open }
 
 abbrev pub OpenTested : ℕ → Prog → ℕ → Result Stage EditFault → Type 0
-OpenTested room p m r =
-    MatchResult r (OpenAllowed room p m) (λ e. (caps : Caps) → caps.stages ≡ room → open_step caps p m ≡ refused e p)
+OpenTested capacity p m r =
+    MatchResult r (OpenAllowed capacity p m)
+    (λ e. (caps : Caps) → caps.stages ≡ capacity → open_step caps p m ≡ refused e p)
 
 -- The stage of number s is open, and r is that stage.
 pub record MarkAllowed (p : Prog) (s : ℕ) (r : Stage) : Type 0 where
@@ -31,27 +32,27 @@ abbrev pub MarkTested : Prog → ℕ → Result Stage EditFault → Type 0
 MarkTested p s r = MatchResult r (MarkAllowed p s) (λ e. (m : ℕ) → mark_step p s m ≡ refused e p)
 
 -- Both ends are open stages, the minutes are few enough, there is place for one more move, and r is that move.
-pub record LayAllowed (room : ℕ) (p : Prog) (s d t : ℕ) (r : Move) : Type 0 where
+pub record LayAllowed (capacity : ℕ) (p : Prog) (s d t : ℕ) (r : Move) : Type 0 where
   pub leaves_stage : s < length p.stages
   pub enters_stage : t < length p.stages
   pub leaves_open : is_open (stage_at p s).kind ≡ true
   pub enters_open : is_open (stage_at p t).kind ≡ true
   pub short : d ≤ most_minutes
-  pub fits : length p.moves < room
+  pub fits : length p.moves < capacity
   pub is : r ≡ record { leaves = s; minutes = d; enters = t }
 
 abbrev pub LayTested : ℕ → Prog → ℕ → ℕ → ℕ → Result Move EditFault → Type 0
-LayTested room p s d t r =
-    MatchResult r (LayAllowed room p s d t)
-    (λ e. (caps : Caps) → caps.moves ≡ room → lay_step caps p s d t ≡ refused e p)
+LayTested capacity p s d t r =
+    MatchResult r (LayAllowed capacity p s d t)
+    (λ e. (caps : Caps) → caps.moves ≡ capacity → lay_step caps p s d t ≡ refused e p)
 
 -- There is a move k, it takes a minutes at least, there is place for one more stage and move, and r is what a cut there
 -- makes of the move, joined by a new last stage.
 pub record CutAllowed (caps : Caps) (p : Prog) (k a : ℕ) (r : Pieces) : Type 0 where
   pub real : k < length p.moves
   pub inside : a ≤ (move_at p k).minutes
-  pub stage_room : length p.stages < caps.stages
-  pub move_room : length p.moves < caps.moves
+  pub stage_fits : length p.stages < caps.stages
+  pub move_fits : length p.moves < caps.moves
   pub first : r.first ≡ leads (move_at p k).leaves a (length p.stages)
   pub second : r.second ≡ leads (length p.stages) ((move_at p k).minutes - a) (move_at p k).enters
 

@@ -9,4 +9,4 @@ pub returns-clause-tidy : goal.returns-clause-tidy
 returns-clause-tidy c =
     let a = c.in_ok-pieces.ensures in
     does_tidy card_caps _ _ (edit.Cut c.args.k c.args.place) _
-    (λ _. cuts card_caps _ _ _ _ _ a.real a.inside refl a.stage_room a.move_room cc)
+    (λ _. cuts card_caps _ _ _ _ _ a.real a.inside refl a.stage_fits a.move_fits cc)

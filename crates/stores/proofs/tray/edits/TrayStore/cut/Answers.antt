@@ -19,8 +19,8 @@ invariant_of-self c =
     let n = moves_counted tray.move_count tray.areas.now.moves.items in
     let real = a.real in
     let cut = tray_cut _ _ _ _ tray.stage_area tray.move_area _ _ _ _ _ _ _ a (omega arith) first second stage in
-    let stage_fits = a.stage_room in
-    let move_fits = a.move_room in
+    let stage_fits = a.stage_fits in
+    let move_fits = a.move_fits in
     let rs = c.stage_capacity.ensures in
     let rm = c.move_capacity.ensures in
     record {
@@ -42,8 +42,8 @@ returns-clause-does c =
     let n = moves_counted tray.move_count tray.areas.now.moves.items in
     let real = a.real in
     let cut = tray_cut _ _ _ _ tray.stage_area tray.move_area _ _ _ _ _ _ _ a (omega arith) first second stage in
-    let stage_fits = a.stage_room in
-    let move_fits = a.move_room in
+    let stage_fits = a.stage_fits in
+    let move_fits = a.move_fits in
     let rs = c.stage_capacity.ensures in
     let rm = c.move_capacity.ensures in
     cuts (areas_room tray.areas.now) _ _ _ _ _ a.real a.inside s (omega arith) (omega arith) cut.is
