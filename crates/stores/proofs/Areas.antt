@@ -1,39 +1,37 @@
 -- Byte areas: what a write at a place and a record taken out leave, and what the records of an area then read as.
 use Rattle.std.proofs.Common.{◌≡◌, ℕ, zero, suc, ◌+◌, ◌-◌, ◌*◌, ◌<◌, ◌≤◌, List, [], ◌∷◌, ◌++◌, length, get_or, take}
-use Rattle.std.proofs.Common.{drop, set, replicate, sym, refl, ap, ◌∙◌, add-zero, add_comm, mul-zero, zero-add, mul-suc}
+use Rattle.std.proofs.Common.{drop, set, replicate, sym, refl, ap, ◌∙◌, add_comm, mul-zero, zero-add, mul-suc}
 use Rattle.std.proofs.Common.{mul-add, arith}
 use lib.Seq.{take-append-add, drop-append-add}
 use Rattle.std.proofs.lemmas.List.{append_assoc, append-nil, length-append, length_push, length-set, length-replicate}
-use Rattle.std.proofs.lemmas.List.{length-take-le, length-drop, take-append-drop, replicate-append-replicate, take_at}
-use Rattle.std.proofs.lemmas.List.{drop_at, drop-drop, drop-replicate, get_or-drop}
+use Rattle.std.proofs.lemmas.List.{get_or-map, length-take-le, length-drop, take-append-drop, take_at, drop_at}
+use Rattle.std.proofs.lemmas.List.{drop-drop, drop-replicate, replicate-append-replicate}
+use Rattle.std.proofs.lemmas.List.Concat.{flat_map-append}
+use Rattle.std.proofs.lemmas.Grind.{common_steps}
 use Rattle.std.specs.List.{remove, between}
+use Rattle.std.specs.Simd.{first_chunks}
 use Rattle.std.proofs.lemmas.List.Edits.{length-remove}
-use Rattle.stores.specs.Areas.{put, taken_out, number_at, Layout, bytes, in_use, filled, Holds}
-use Rattle.stores.specs.InUse.{length_in_use}
+use Rattle.stores.specs.Areas.{put, taken_out, Layout, Lawful, bytes, in_use, filled, Holds}
+use Rattle.stores.specs.InUse.{length_first_chunks, length_in_use}
 
-pub number_at-drop : (n : ℕ) (bs : List ℕ) (i : ℕ) → number_at (drop n bs) i ≡ number_at bs (n + i)
-number_at-drop n bs i =
-    let e : n + (i + 1) ≡ (n + i) + 1 = omega arith in
-    rw (get_or-drop n bs i 0, get_or-drop n bs (i + 1) 0, e)
-
-pub number_at-drop-first : (n : ℕ) (bs : List ℕ) → number_at (drop n bs) 0 ≡ number_at bs n
-number_at-drop-first n bs = number_at-drop n bs 0 ∙ ap (number_at bs) (add-zero n)
+-- record n of an area, among its chunks of w bytes
+pub get_or-first_chunks : (w k n : ℕ) (bs : List ℕ) → n < k
+    → get_or (first_chunks w k bs) n [] ≡ take w (drop (w * n) bs)
+get_or-first_chunks w zero n bs h = absurd (omega arith)
+get_or-first_chunks w (suc k) zero bs h = rw (mul-zero w)
+get_or-first_chunks w (suc k) (suc n) bs h =
+    let e : w * suc n ≡ w + w * n = mul-suc w n ∙ add_comm _ _ in
+    get_or-first_chunks w k n (drop w bs) (omega arith)
+    ∙ ap (take w) (drop-drop (w * n) w bs ∙ ap (λ m. drop m bs) (sym e))
 
 -- a write behind the first part of an area leaves that part
 pub put_append : (front bs : List ℕ) (at : ℕ) (cs : List ℕ)
     → put (front ++ bs) (length front + at) cs ≡ front ++ put bs at cs
-put_append front bs at cs =
-    let e : (length front + at) + length cs ≡ length front + (at + length cs) = omega arith in
-    rw (e, take-append-add front bs at, drop-append-add front bs (at + length cs), append_assoc)
+put_append front bs at cs = grind (arith, common_steps, take-append-add, drop-append-add)
 
 -- a write of as many bytes at the start
 pub put_first : (bs rest cs : List ℕ) → length bs ≡ length cs → put (bs ++ rest) 0 cs ≡ cs ++ rest
-put_first bs rest cs e = ap (λ r. cs ++ r) (drop_at bs rest (0 + length cs) (e ∙ sym (zero-add (length cs))))
-
--- Every record takes the layout's width, and is read back whatever lies behind it.
-pub record Lawful {X : Type 0} (l : Layout X) : Type 0 where
-  pub wide : (x : X) → length (l.write x) ≡ l.width
-  pub back : (x : X) (rest : List ℕ) → l.read (l.write x ++ rest) ≡ x
+put_first bs rest cs e = grind (arith, common_steps, drop_at)
 
 -- An area holds n records and nothing else, and they read as xs.
 pub record Written {X : Type 0} (l : Layout X) (n : ℕ) (bs : List ℕ) (xs : List X) : Type 0 where
@@ -45,13 +43,12 @@ module _ {X : Type 0} (l : Layout X) where
   below-in_use n i bs h = rw (length_in_use l n bs) at h
 
   pub get_or-in_use : (n i : ℕ) (bs : List ℕ) (d : X) → i < n
-      → get_or (in_use l n bs) i d ≡ l.read (drop (l.width * i) bs)
-  get_or-in_use zero i bs d h = absurd (omega arith)
-  get_or-in_use (suc n) zero bs d h = rw (mul-zero l.width)
-  get_or-in_use (suc n) (suc i) bs d h =
-      let e : l.width * suc i ≡ l.width + l.width * i = mul-suc l.width i ∙ add_comm _ _ in
-      get_or-in_use n i (drop l.width bs) d (omega arith)
-      ∙ ap l.read (drop-drop (l.width * i) l.width bs ∙ ap (λ k. drop k bs) (sym e))
+      → get_or (in_use l n bs) i d ≡ l.read (take l.width (drop (l.width * i) bs))
+  get_or-in_use n i bs d h =
+      let inside : i < length (first_chunks l.width n bs) =
+      omega (arith, length_first_chunks l.width n bs) in
+      get_or-map l.read (first_chunks l.width n bs) i [] d inside
+      ∙ ap l.read (get_or-first_chunks l.width n i bs h)
 
 module _ {X : Type 0} (l : Layout X) (law : Lawful l) where
   pub in_use-bytes : (xs : List X) (rest : List ℕ) → in_use l (length xs) (bytes l xs ++ rest) ≡ xs
@@ -59,7 +56,8 @@ module _ {X : Type 0} (l : Layout X) (law : Lawful l) where
   in_use-bytes (x ∷ xs) rest =
       rw (
         append_assoc (l.write x) (bytes l xs) rest,
-        law.back x (bytes l xs ++ rest),
+        take_at (l.write x) (bytes l xs ++ rest) l.width (law.wide x),
+        law.back x,
         drop_at (l.write x) (bytes l xs ++ rest) l.width (law.wide x),
         in_use-bytes xs rest,
       )
@@ -68,8 +66,7 @@ module _ {X : Type 0} (l : Layout X) (law : Lawful l) where
   put_next : (y : X) (rest : List ℕ) (i : ℕ) (cs : List ℕ)
       → put (l.write y ++ rest) (l.width * suc i) cs ≡ l.write y ++ put rest (l.width * i) cs
   put_next y rest i cs =
-      let e : l.width * suc i ≡ length (l.write y) + l.width * i =
-      mul-suc l.width i ∙ add_comm _ _ ∙ ap (λ k. k + l.width * i) (sym (law.wide y)) in
+      let e : l.width * suc i ≡ length (l.write y) + l.width * i = grind (arith, mul-suc, law.wide) in
       ap (λ k. put (l.write y ++ rest) k cs) e ∙ put_append (l.write y) rest (l.width * i) cs
 
   pub put_record : (xs : List X) (rest : List ℕ) (i : ℕ) (x : X) → i < length xs
@@ -79,10 +76,12 @@ module _ {X : Type 0} (l : Layout X) (law : Lawful l) where
       rw (mul-zero l.width, append_assoc (l.write y) (bytes l xs) rest, append_assoc (l.write x) (bytes l xs) rest)
       (put_first (l.write y) (bytes l xs ++ rest) (l.write x) (law.wide y ∙ sym (law.wide x)))
   put_record (y ∷ xs) rest (suc i) x h =
-      ap (λ r. put r (l.width * suc i) (l.write x)) (append_assoc (l.write y) (bytes l xs) rest)
-      ∙ put_next y (bytes l xs ++ rest) i (l.write x)
-      ∙ ap (λ r. l.write y ++ r) (put_record xs rest i x (omega arith))
-      ∙ sym (append_assoc (l.write y) (bytes l (set xs i x)) rest)
+      rw (
+        append_assoc (l.write y) (bytes l xs) rest,
+        put_next y (bytes l xs ++ rest) i (l.write x),
+        put_record xs rest i x (omega arith),
+        append_assoc (l.write y) (bytes l (set xs i x)) rest,
+      )
 
   pub put_behind : (xs : List X) (rest : List ℕ) (x : X)
       → put (bytes l xs ++ rest) (l.width * length xs) (l.write x)
@@ -90,28 +89,23 @@ module _ {X : Type 0} (l : Layout X) (law : Lawful l) where
   put_behind [] rest x =
       rw (mul-zero l.width, zero-add (length (l.write x)), law.wide x, append-nil (l.write x))
   put_behind (y ∷ xs) rest x =
-      ap (λ r. put r (l.width * suc (length xs)) (l.write x)) (append_assoc (l.write y) (bytes l xs) rest)
-      ∙ put_next y (bytes l xs ++ rest) (length xs) (l.write x)
-      ∙ ap (λ r. l.write y ++ r) (put_behind xs rest x)
-      ∙ sym (append_assoc (l.write y) (bytes l (xs ++ (x ∷ []))) (drop l.width rest))
+      rw (
+        append_assoc (l.write y) (bytes l xs) rest,
+        put_next y (bytes l xs ++ rest) (length xs) (l.write x),
+        put_behind xs rest x,
+        append_assoc (l.write y) (bytes l (xs ++ (x ∷ []))) (drop l.width rest),
+      )
 
   length_bytes : (xs : List X) → length (bytes l xs) ≡ l.width * length xs
   length_bytes [] = sym (mul-zero l.width)
-  length_bytes (x ∷ xs) =
-      length-append (l.write x) (bytes l xs) ∙ ap (λ n. n + length (bytes l xs)) (law.wide x)
-      ∙ ap (λ n. l.width + n) (length_bytes xs) ∙ add_comm _ _ ∙ sym (mul-suc l.width (length xs))
-
-  bytes_append : (xs ys : List X) → bytes l (xs ++ ys) ≡ bytes l xs ++ bytes l ys
-  bytes_append [] ys = refl
-  bytes_append (x ∷ xs) ys =
-      ap (λ r. l.write x ++ r) (bytes_append xs ys) ∙ sym (append_assoc (l.write x) (bytes l xs) (bytes l ys))
+  length_bytes (x ∷ xs) = let rest = length_bytes xs in grind (arith, common_steps, mul-suc, law.wide)
 
   -- the records before i, and the others with what lies behind
   bytes_split : (xs : List X) (rest : List ℕ) (i : ℕ)
       → bytes l xs ++ rest ≡ bytes l (take i xs) ++ (bytes l (drop i xs) ++ rest)
   bytes_split xs rest i =
       ap (λ ys. bytes l ys ++ rest) (sym (take-append-drop i xs))
-      ∙ ap (λ bs. bs ++ rest) (bytes_append (take i xs) (drop i xs))
+      ∙ ap (λ bs. bs ++ rest) (flat_map-append l.write (take i xs) (drop i xs))
       ∙ append_assoc (bytes l (take i xs)) (bytes l (drop i xs)) rest
 
   module _ (xs : List X) (rest : List ℕ) (i : ℕ) (h : i ≤ length xs) where
@@ -145,10 +139,14 @@ module _ {X : Type 0} (l : Layout X) (law : Lawful l) where
       let n = length xs in
       let next : i + 1 ≡ suc i = omega arith in
       let past : drop (w * n) (bytes l xs ++ rest) ≡ rest = drop_at (bytes l xs) rest (w * n) (length_bytes xs) in
-      rw (take_bytes xs rest i (omega arith), between_bytes xs rest i h, past)
-      (sym (append_assoc (bytes l (take i xs)) (bytes l (drop (i + 1) xs)) (replicate w 0 ++ rest))
-      ∙ ap (λ bs. bs ++ (replicate w 0 ++ rest)) (sym (bytes_append (take i xs) (drop (i + 1) xs)))
-      ∙ ap (λ k. bytes l (take i xs ++ drop k xs) ++ (replicate w 0 ++ rest)) next)
+      rw (
+        take_bytes xs rest i (omega arith),
+        between_bytes xs rest i h,
+        past,
+        next,
+        flat_map-append l.write (take i xs) (drop (suc i) xs),
+        append_assoc (bytes l (take i xs)) (bytes l (drop (suc i) xs)) (replicate w 0 ++ rest),
+      )
 
   pub written : (n k : ℕ) (bs : List ℕ) (xs : List X) → length xs ≡ n → bs ≡ bytes l xs ++ replicate k 0
       → Written l n bs xs

@@ -1,22 +1,27 @@
 -- What a join finds and makes, on any program; on a tidy one it is what the step says.
-use Rattle.std.proofs.Common.{◌≡◌, ℕ, suc, ◌+◌, ◌<◌, ◌≤◌, false, ◌≢◌, length, get_or, take, set, Ok, sym, ap, ◌∙◌}
-use Rattle.std.proofs.Common.{subst, ⊎_elim, arith}
+use Rattle.std.proofs.Common.{◌≡◌, ℕ, suc, ◌+◌, ◌<◌, ◌≤◌, false, List, ◌++◌, length, take, set, Ok, sym}
+use Rattle.std.proofs.Common.{ap, ◌∙◌, subst, arith}
 use Rattle.std.specs.List.{remove}
-use Rattle.std.proofs.lemmas.List.{length-set, length-take-le, get_or-set_same, get_or-set_other}
+use Rattle.std.proofs.lemmas.List.{append-nil, drop_all, length-take-le}
 use Rattle.std.proofs.lemmas.List.Edits.{length-remove, get_or-remove_below, get_or-remove_above}
-use Rattle.std.proofs.lemmas.Bool.{cases_eq, cases_lt}
+use Rattle.std.proofs.lemmas.Grind.{common_steps}
 use Rattle.program.specs.declared.Move.{Move}
-use Rattle.program.specs.Meaning.{Prog, Fits, no_move, stage_at, move_at, most_minutes}
+use Rattle.program.specs.Meaning.{Prog, Fits, stage_at, move_at, most_minutes}
 use Rattle.program.specs.Edits.{Does, is_open, leads, last_stage, move_into, move_out_of, with_join, join_step}
 use Rattle.program.specs.Tidy.{SilentAt, Tidy}
 use Rattle.program.proofs.Doing.{joins}
 use Rattle.program.proofs.Kept.{silent_from}
 use Rattle.program.proofs.Cuts.{into_is, out_of_is, in_and_out, join_short}
-use Rattle.stores.specs.declared.joint.End.TheVariants.{Leaves, Enters}
+use Rattle.program.specs.declared.End.TheVariants.{Leaves, Enters}
+use Rattle.program.specs.Ends.{end_of}
 use Rattle.stores.specs.declared.joint.Joint.{Joint}
 use Rattle.stores.specs.Allowed.{Ends}
-use Rattle.stores.specs.MoveEnds.{end_of, Only}
+use Rattle.stores.specs.MoveEnds.{Only}
 use Rattle.stores.specs.Joints.{JoinAllowed}
+
+-- the last of a list is taken out
+pub removed_last : {X : Type 0} (xs : List X) (e : ℕ) → length xs ≡ suc e → remove xs e ≡ take e xs
+removed_last xs e one = ap (λ r. take e xs ++ r) (drop_all (suc e) xs (omega arith)) ∙ append-nil (take e xs)
 
 -- The program without stage e and without its move out, o, where m stands in the place of its move in, i.
 abbrev joined_by : Prog → ℕ → ℕ → ℕ → Move → Prog
@@ -75,17 +80,11 @@ module _ (p : Prog) (j : Joint) (a : JoinAllowed p j) where
   module _ (ends : Ends p) where
     leaves_below : (x : ℕ) → x < length p.moves → (x ≡ j.out_of → ⊥) → (move_at p x).leaves < j.stage
     leaves_below x l other =
-        let b = (ends x l).0 in
-        let h = a.last in
-        ⊎_elim (λ e. absurd (other (a.leaves.alone x l e))) (λ e. omega arith)
-        (cases_eq (move_at p x).leaves j.stage)
+        let b = (ends x l).0 in let h = a.last in let alone = a.leaves.alone x l in grind arith
 
     enters_below : (x : ℕ) → x < length p.moves → (x ≡ j.into → ⊥) → (move_at p x).enters < j.stage
     enters_below x l other =
-        let b = (ends x l).1 in
-        let h = a.last in
-        ⊎_elim (λ e. absurd (other (a.enters.alone x l e))) (λ e. omega arith)
-        (cases_eq (move_at p x).enters j.stage)
+        let b = (ends x l).1 in let h = a.last in let alone = a.enters.alone x l in grind arith
 
     whole_fits : Fits j.stage j.whole
     whole_fits =
@@ -95,35 +94,16 @@ module _ (p : Prog) (j : Joint) (a : JoinAllowed p j) where
           a.short,
         )
 
-    replaced_fits : (x : ℕ) → x < length p.moves → (x ≡ j.out_of → ⊥)
-        → Fits j.stage (get_or (set p.moves j.into j.whole) x no_move)
-    replaced_fits x l other =
-        let P : Move → Type 0 = Fits j.stage in
-        let into = j.into in
-        ⊎_elim
-        (λ (e : x ≡ into).
-        subst P (sym (ap (λ y. get_or (set p.moves into j.whole) y no_move) e
-        ∙ get_or-set_same p.moves into j.whole no_move a.enters.real)) whole_fits)
-        (λ (e : x ≢ into).
-        subst P (sym (get_or-set_other p.moves into x j.whole no_move e))
-        (leaves_below x l other, enters_below x l e, (ends x l).2))
-        (cases_eq x into)
-
     joined_fits : (m : ℕ) → m < length (joined p j).moves → Fits j.stage (move_at (joined p j) m)
     joined_fits m l =
-        let P : Move → Type 0 = Fits j.stage in
-        let xs = set p.moves j.into j.whole in
-        let o = j.out_of in
-        let n = length-set p.moves j.into j.whole in
-        let real : o < length xs = let h = a.leaves.real in omega arith in
-        let fewer = length-remove xs o real in
-        ⊎_elim
-        (λ (below : m < o).
-        subst P (sym (get_or-remove_below xs o no_move m below real)) (replaced_fits m (omega arith) (λ e. omega arith)))
-        (λ (above : o ≤ m).
-        subst P (sym (get_or-remove_above xs o no_move m above real))
-        (replaced_fits (m + 1) (omega arith) (λ e. omega arith)))
-        (cases_lt m o)
+        let whole = whole_fits in
+        let left = leaves_below m in
+        let entered = enters_below m in
+        let short = ends m in
+        let left_next = leaves_below (m + 1) in
+        let entered_next = enters_below (m + 1) in
+        let short_next = ends (m + 1) in
+        grind (arith, common_steps, get_or-remove_below, get_or-remove_above, length-remove)
 
   pub ends_kept_by_join : (q : Prog) → q ≡ joined p j → Ends p → Ends q
   ends_kept_by_join q e ends =

@@ -1,10 +1,6 @@
-pub mod Tables
-pub mod Gaps
 pub mod Kept
-pub mod Pieces
 pub mod Joints
-pub mod Cards
-pub mod Areas
-pub mod Records
 pub mod Refusals
+pub mod Gaps
+pub mod Areas
 pub mod Trays

@@ -1,16 +1,12 @@
 -- Byte areas as lists of numbers: what a write leaves, and how records of one width lie in an area.
-use Rattle.std.specs.Prelude.{◌≡◌, ℕ, zero, suc, ◌+◌, ◌-◌, ◌*◌, ◌/◌, ◌%◌, List, [], ◌∷◌, ◌++◌, length, take, drop}
-use Rattle.std.specs.Prelude.{replicate, slice_index}
-use Rattle.std.proofs.Math.Seq.{paste}
+use Rattle.std.specs.Prelude.{◌≡◌, ℕ, ◌+◌, ◌-◌, ◌*◌, ◌/◌, ◌%◌, List, [], ◌∷◌, ◌++◌, length, take, drop, replicate}
+use Rattle.std.specs.Prelude.{slice_index, map}
 use Rattle.std.specs.List.{between, flat_map}
+use Rattle.std.specs.Simd.{first_chunks}
 
 -- cs written over bs from a place on
 abbrev pub put : List ℕ → ℕ → List ℕ → List ℕ
 put bs at cs = take at bs ++ (cs ++ drop (at + length cs) bs)
-
--- xs, with what lies from `at + by` on moved down to `at`, as far as place i
-abbrev pub shifted : {X : Type 0} → List X → ℕ → ℕ → ℕ → List X
-shifted xs at by i = paste xs at (drop (at + by) xs) (i - at)
 
 -- record i of n taken out, where each is w bytes wide: those before it stay, later ones stand one place lower, zeros
 -- take the last place, and what lies behind stays
@@ -31,14 +27,18 @@ pub record Layout (X : Type 0) : Type 0 where
   pub write : X → List ℕ
   pub read : List ℕ → X
 
+-- Every record takes the layout's width, and is read back.
+pub record Lawful {X : Type 0} (l : Layout X) : Type 0 where
+  pub wide : (x : X) → length (l.write x) ≡ l.width
+  pub back : (x : X) → l.read (l.write x) ≡ x
+
 -- records one after another
 abbrev pub bytes : {X : Type 0} → Layout X → List X → List ℕ
 bytes l = flat_map l.write
 
 -- what the first n records of an area read as
 abbrev pub in_use : {X : Type 0} → Layout X → ℕ → List ℕ → List X
-in_use l zero bs = []
-in_use l (suc n) bs = l.read bs ∷ in_use l n (drop l.width bs)
+in_use l n bs = map l.read (first_chunks l.width n bs)
 
 -- an area of n bytes that begins with cs and has zeros behind
 abbrev pub filled : ℕ → List ℕ → List ℕ

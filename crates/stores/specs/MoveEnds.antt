@@ -2,12 +2,6 @@
 use Rattle.std.specs.Prelude.{◌≡◌, ℕ, ◌<◌, ◌≤◌, length, ◌≢◌}
 use Rattle.program.specs.declared.Move.{Move}
 use Rattle.program.specs.Meaning.{Prog, move_at}
-use Rattle.stores.specs.declared.joint.End.{End}
-use Rattle.stores.specs.declared.joint.End.TheVariants.{Leaves, Enters}
-
-abbrev pub end_of : End → Move → ℕ
-end_of Leaves m = m.leaves
-end_of Enters m = m.enters
 
 -- No move from one on, and before another, has stage s at the end.
 abbrev pub NoneBetween : Prog → (Move → ℕ) → ℕ → ℕ → ℕ → Type 0

@@ -1,17 +1,14 @@
--- The program that the areas of a tray hold, the room in them, and what the write of a record does to them.
-use Rattle.std.specs.Prelude.{◌≡◌, ℕ, ◌*◌, ◌/◌, min, vec_items, vec_len}
-use Rattle.program.specs.declared.Stage.{Stage}
-use Rattle.program.specs.declared.Move.{Move}
-use Rattle.program.specs.Meaning.{Prog, most_stages, most_moves}
+-- The program that the areas of a tray hold, and the room in them.
+use Rattle.std.specs.Prelude.{◌≡◌, ℕ, ◌/◌, min, vec_items, vec_len}
+use Rattle.program.specs.Meaning.{Prog, prog, most_stages, most_moves}
 use Rattle.program.specs.Edits.{Caps}
 use Rattle.stores.specs.declared.tray.areas.Areas.{Areas}
-use Rattle.stores.specs.Areas.{put, taken_out, bytes, in_use, filled}
-use Rattle.stores.specs.Records.{stage_record, move_record, stage_layout, move_layout}
+use Rattle.stores.specs.Areas.{bytes, in_use, filled}
+use Rattle.stores.specs.Records.{stage_layout, move_layout}
 
 -- n stages and k moves in use
 abbrev pub areas_prog : ℕ → ℕ → Areas → Prog
-areas_prog n k a =
-    record { stages = in_use stage_layout n (vec_items a.stages); moves = in_use move_layout k (vec_items a.moves) }
+areas_prog n k a = prog (in_use stage_layout n (vec_items a.stages)) (in_use move_layout k (vec_items a.moves))
 
 -- how many stages and moves areas of so many bytes have room for
 abbrev pub room_for_stages : ℕ → ℕ
@@ -31,27 +28,3 @@ pub record SameLengths (before after : Areas) : Type 0 where
 pub record Image (p : Prog) (a : Areas) : Type 0 where
   pub stages : vec_items a.stages ≡ filled (vec_len a.stages) (bytes stage_layout p.stages)
   pub moves : vec_items a.moves ≡ filled (vec_len a.moves) (bytes move_layout p.moves)
-
--- The stage of number n is written, and no other byte changes.
-pub record StagePut (before : Areas) (n : ℕ) (s : Stage) (after : Areas) : Type 0 where
-  pub written : vec_items after.stages ≡ put (vec_items before.stages) (4 * n) (stage_record s)
-  pub long : vec_len after.stages ≡ vec_len before.stages
-  pub moves : after.moves ≡ before.moves
-
--- The move of number n is written, and no other byte changes.
-pub record MovePut (before : Areas) (n : ℕ) (m : Move) (after : Areas) : Type 0 where
-  pub written : vec_items after.moves ≡ put (vec_items before.moves) (8 * n) (move_record m)
-  pub long : vec_len after.moves ≡ vec_len before.moves
-  pub stages : after.stages ≡ before.stages
-
--- Stage i of n is taken out, and no other byte changes.
-pub record StageTaken (before : Areas) (n i : ℕ) (after : Areas) : Type 0 where
-  pub written : vec_items after.stages ≡ taken_out 4 n i (vec_items before.stages)
-  pub long : vec_len after.stages ≡ vec_len before.stages
-  pub moves : after.moves ≡ before.moves
-
--- Move i of n is taken out, and no other byte changes.
-pub record MoveTaken (before : Areas) (n i : ℕ) (after : Areas) : Type 0 where
-  pub written : vec_items after.moves ≡ taken_out 8 n i (vec_items before.moves)
-  pub long : vec_len after.moves ≡ vec_len before.moves
-  pub stages : after.stages ≡ before.stages

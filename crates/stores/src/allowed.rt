@@ -1,7 +1,24 @@
-// What a program allows before a store looks for room: the refusals of an edit, in their order.
-ghost use Rattle.stores.specs.Allowed.{MarkTested, LayTested, CutTested};
+// What a store allows: the refusals of an edit, in their order.
+ghost use Rattle.stores.specs.Allowed.{OpenTested, MarkTested, LayTested, CutTested};
 
 use program::{EditFault, Kind, MOST_MINUTES, Move, Program, Stage};
+
+// The stage with those marks, where `open` may append it.
+pub(crate) fn allowed_stage<P: Program>(
+    program: &P,
+    capacity: usize,
+    marks: u16,
+) -> Result<Stage, EditFault>
+    ensures { OpenTested capacity (P.Program.meaning program.now) marks result }
+{
+    if program.stage_count() >= capacity {
+        return Err(EditFault::StagesFull);
+    }
+    Ok(Stage {
+        marks,
+        kind: Kind::Open,
+    })
+}
 
 // The stage of that number, where `mark` may replace its marks.
 pub(crate) fn open_stage<P: Program>(program: &P, stage: usize) -> Result<Stage, EditFault>
@@ -20,24 +37,25 @@ pub(crate) fn open_stage<P: Program>(program: &P, stage: usize) -> Result<Stage,
 // The move with those ends and minutes, where `lay` may append it.
 pub(crate) fn allowed_move<P: Program>(
     program: &P,
+    capacity: usize,
     leaves: usize,
     minutes: u32,
     enters: usize,
 ) -> Result<Move, EditFault>
-    ensures { LayTested (P.Program.meaning program.now) leaves minutes enters result }
+    ensures { LayTested capacity (P.Program.meaning program.now) leaves minutes enters result }
 {
     let stages = program.stage_count();
     if leaves >= stages || enters >= stages {
         return Err(EditFault::NoStage);
     }
-    let Kind::Open = program.stage(leaves).kind else {
+    if program.stage(leaves).kind == Kind::Silent || program.stage(enters).kind == Kind::Silent {
         return Err(EditFault::SilentStage);
-    };
-    let Kind::Open = program.stage(enters).kind else {
-        return Err(EditFault::SilentStage);
-    };
+    }
     if minutes > MOST_MINUTES as u32 {
         return Err(EditFault::TooLong);
+    }
+    if program.move_count() >= capacity {
+        return Err(EditFault::MovesFull);
     }
     Ok(Move {
         leaves: leaves as u16,
@@ -62,10 +80,13 @@ pub struct Pieces {
 // The pieces of move k, where `cut` may cut it `place` minutes after it begins, at a new last stage.
 pub(crate) fn allowed_pieces<P: Program>(
     program: &P,
+    stage_capacity: usize,
+    move_capacity: usize,
     k: usize,
     place: u32,
 ) -> Result<Pieces, EditFault>
-    ensures { CutTested (P.Program.meaning program.now) k place result }
+    ensures { CutTested (record { stages = stage_capacity; moves = move_capacity })
+        (P.Program.meaning program.now) k place result }
 {
     if k >= program.move_count() {
         return Err(EditFault::NoMove);
@@ -74,17 +95,24 @@ pub(crate) fn allowed_pieces<P: Program>(
     if place > whole.minutes as u32 {
         return Err(EditFault::TooLong);
     }
+    let stages = program.stage_count();
+    if stages >= stage_capacity {
+        return Err(EditFault::StagesFull);
+    }
+    if program.move_count() >= move_capacity {
+        return Err(EditFault::MovesFull);
+    }
     let minutes = place as u16;
-    let stage = program.stage_count() as u16;
+    let stage = stages as u16;
     let first = Move {
-        leaves: whole.leaves,
         minutes,
         enters: stage,
+        ..whole
     };
     let second = Move {
         leaves: stage,
         minutes: whole.minutes - minutes,
-        enters: whole.enters,
+        ..whole
     };
     Ok(Pieces { first, second })
 }

@@ -1,21 +1,21 @@
 // A card: a small store with room of its own for 64 stages and 256 moves.
-// The first `count` records of each table are in use; the ghost fields hold between any two calls.
+// The ghost fields hold between any two calls.
 pub mod edits;
 pub mod tables;
 
-ghost use Rattle.std.specs.Prelude.{◌≡◌, ◌≤◌, length};
+ghost use Rattle.std.specs.Prelude.{◌≤◌, length};
+ghost use Rattle.program.specs.Meaning.{prog};
 ghost use Rattle.stores.specs.Allowed.{Ends};
-ghost use Rattle.stores.specs.Cards.{card_stages, card_moves, card_prog};
+ghost use Rattle.stores.specs.Cards.{card_stages, card_moves};
 
-use tables::{MoveTable, StageTable};
+use program::{Move, Stage};
+use tables::{CARD_MOVES, CARD_STAGES, Table};
 
 #[derive(Drop)]
 pub struct Card {
-    stages: StageTable,
-    moves: MoveTable,
-    ghost stage_table: { length stages.records ≡ card_stages },
-    ghost move_table: { length moves.records ≡ card_moves },
-    ghost stage_room: { stages.count ≤ card_stages },
-    ghost move_room: { moves.count ≤ card_moves },
-    ghost ends: { Ends (card_prog stages moves) },
+    stages: Table<Stage, CARD_STAGES>,
+    moves: Table<Move, CARD_MOVES>,
+    ghost stage_room: { length stages ≤ card_stages },
+    ghost move_room: { length moves ≤ card_moves },
+    ghost ends: { Ends (prog stages moves) },
 }

@@ -1,8 +1,7 @@
 // A tray: a store whose records lie in two byte areas that its user lends, one for stages and one for moves.
 // The areas hold the bytes of the records in use and zeros behind them, between any two calls.
-// They are lent together: of a struct with a single loan, the lender knows what it left when it is gone.
+// They are lent together, in one loan: of a struct that a call makes of two, the lender does not learn what it left.
 pub mod areas;
-mod bytes;
 pub mod edits;
 mod records;
 

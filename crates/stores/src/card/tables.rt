@@ -1,39 +1,82 @@
-// The tables of a card: plain records, of which the first `count` are in use.
-ghost use Rattle.std.specs.Prelude.{◌≡◌, ◌+◌, ◌<◌, ◌≤◌, length, take};
+// The tables of a card: plain records, of which the first `count` are in use. A contract sees the list of these.
+ghost use Rattle.std.specs.Prelude.{◌≡◌, ◌<◌, ◌++◌, [], ◌∷◌, length, slice_set};
 ghost use Rattle.std.specs.List.{remove};
-ghost use Rattle.stores.specs.Cards.{card_moves};
 
-use program::{Move, Stage};
+use std::marker::Model;
 
 pub const CARD_STAGES: usize = 64;
 
 pub const CARD_MOVES: usize = 256;
 
-#[derive(Clone, Copy)]
-pub struct StageTable {
-    pub count: usize,
-    pub records: [Stage; CARD_STAGES],
+// A plain struct and no vector of a crate: a card has its records in itself, and `mark` lends one of them.
+#[derive(Drop)]
+pub(crate) struct Table<T: Copy, const N: usize> {
+    count: usize,
+    pub(crate) records: [T; N],
 }
 
-#[derive(Clone, Copy)]
-pub struct MoveTable {
-    pub count: usize,
-    pub records: [Move; CARD_MOVES],
+impl<T: Copy, const N: usize> Model for Table<T, N> {
+    ghost use Rattle.std.specs.Prelude.{◌≤◌, List, take};
+
+    ghost Value = { List T };
+
+    ghost view = { λ t. take t.count t.records };
+
+    ghost invariant = { λ t. t.count ≤ N };
 }
 
-// Takes record k out; later records stand one place lower.
-pub(crate) fn take_out(table: &mut MoveTable, k: usize)
-    requires some { k < table.old.count }
-    requires room { table.old.count ≤ card_moves }
-    requires long { length table.old.records ≡ card_moves }
-    ensures records { take table.new.count table.new.records
-        ≡ remove (take table.old.count table.old.records) k }
-    ensures count { table.new.count + 1 ≡ table.old.count }
-    ensures len { length table.new.records ≡ length table.old.records }
-{
-    let last = table.count - 1;
-    for i in k..last {
-        table.records[i] = table.records[i + 1];
+impl<T: Copy, const N: usize> Table<T, N> {
+    // A table with no record in use; every place holds `none`.
+    pub(crate) fn new(none: T) -> Table<T, N>
+        ensures { result ≡ [] }
+    {
+        Table {
+            count: 0,
+            records: [none; N],
+        }
     }
-    table.count = last;
+
+    // How many records are in use.
+    pub(crate) fn count(&self) -> usize
+        ensures { result ≡ length self.now }
+    {
+        self.count
+    }
+
+    // The records in use.
+    pub(crate) fn in_use(&self) -> &[T]
+        ensures { result.now ≡ self.now }
+    {
+        &self.records[..self.count]
+    }
+
+    // Appends a record, and answers its number.
+    pub(crate) fn push(&mut self, added: T) -> usize
+        requires { length self.old < N }
+        ensures number { result ≡ length self.old }
+        ensures appended { self.new ≡ self.old ++ added ∷ [] }
+    {
+        let n = self.count;
+        self.records[n] = added;
+        self.count = n + 1;
+        n
+    }
+
+    // Writes a record over the one of number k.
+    pub(crate) fn replace(&mut self, k: usize, new: T)
+        requires { k < length self.old }
+        ensures { self.new ≡ slice_set self.old k new }
+    {
+        let in_use = &mut self.records[..self.count];
+        in_use[k] = new;
+    }
+
+    // Takes record k out; later records stand one place lower.
+    pub(crate) fn take_out(&mut self, k: usize)
+        requires { k < length self.old }
+        ensures { self.new ≡ remove self.old k }
+    {
+        self.records.copy_within(k + 1..self.count, k);
+        self.count -= 1;
+    }
 }

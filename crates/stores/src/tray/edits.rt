@@ -8,17 +8,12 @@ ghost use Rattle.stores.specs.Records.{stage_layout, move_layout};
 ghost use Rattle.std.proofs.Common.{arith};
 ghost use Rattle.stores.specs.InUse.{length_in_use};
 
-use crate::allowed::{SILENT, allowed_move, allowed_pieces, open_stage};
+use crate::allowed::{SILENT, allowed_move, allowed_pieces, allowed_stage, open_stage};
 use crate::joint::find_joint;
 use crate::tray::Tray;
 use crate::tray::areas::Areas;
-use crate::tray::bytes::clear;
-use crate::tray::records::{
-    MOVE_BYTES, STAGE_BYTES, put_move, put_stage, read_move, read_stage, take_move, take_stage,
-};
-use program::{
-    EditFault, Kind, MOST_MOVES, MOST_STAGES, Move, NO_MOVE, NO_STAGE, Program, Stage, Store,
-};
+use crate::tray::records::{MOVE_BYTES, STAGE_BYTES, put, read, take_out};
+use program::{EditFault, MOST_MOVES, MOST_STAGES, Move, NO_MOVE, NO_STAGE, Program, Stage, Store};
 
 impl<'a> Tray<'a> {
     // A tray with no stage and no move: every byte of the areas is set to 0.
@@ -28,8 +23,8 @@ impl<'a> Tray<'a> {
         ensures long { SameLengths areas.old result.areas.now }
         ensures loan { result.areas.ghost_name ≡ areas.entry.ghost_name }
     {
-        clear(&mut areas.stages);
-        clear(&mut areas.moves);
+        areas.stages.fill(0);
+        areas.moves.fill(0);
         Tray {
             areas,
             stage_count: 0,
@@ -46,6 +41,7 @@ impl<'a> Tray<'a> {
     }
 }
 
+#[tactic(auto, using(crate::specs::InUse::stages_counted, crate::specs::InUse::moves_counted))]
 impl<'a> Program for Tray<'a> {
     ghost meaning = { tray_meaning };
 
@@ -65,7 +61,7 @@ impl<'a> Program for Tray<'a> {
 
     fn stage(&self, s: usize) -> Stage {
         if s < self.stage_count {
-            read_stage(&self.areas.stages, s)
+            read(&self.areas.stages, s)
         } else {
             NO_STAGE
         }
@@ -73,13 +69,14 @@ impl<'a> Program for Tray<'a> {
 
     fn move_at(&self, k: usize) -> Move {
         if k < self.move_count {
-            read_move(&self.areas.moves, k)
+            read(&self.areas.moves, k)
         } else {
             NO_MOVE
         }
     }
 }
 
+#[tactic(auto, using(crate::specs::InUse::stages_counted, crate::specs::InUse::moves_counted))]
 impl<'a> Store for Tray<'a> {
     ghost room = { tray_room };
 
@@ -99,15 +96,9 @@ impl<'a> Store for Tray<'a> {
         ensures kept { tray_room self.new ≡ tray_room self.old }
         ensures stays { SameLoan self.old self.new }
     {
+        let opened = allowed_stage(self, self.stage_capacity(), marks)?;
         let n = self.stage_count;
-        if n >= self.stage_capacity() {
-            return Err(EditFault::StagesFull);
-        }
-        let record = Stage {
-            marks,
-            kind: Kind::Open,
-        };
-        put_stage(self.areas, n, record);
+        put(&mut self.areas.stages, n, opened);
         self.stage_count = n + 1;
         Ok(n)
     }
@@ -119,11 +110,7 @@ impl<'a> Store for Tray<'a> {
         ensures stays { SameLoan self.old self.new }
     {
         let found = open_stage(self, stage)?;
-        let record = Stage {
-            marks,
-            kind: found.kind,
-        };
-        put_stage(self.areas, stage, record);
+        put(&mut self.areas.stages, stage, Stage { marks, ..found });
         Ok(stage)
     }
 
@@ -133,12 +120,9 @@ impl<'a> Store for Tray<'a> {
         ensures kept { tray_room self.new ≡ tray_room self.old }
         ensures stays { SameLoan self.old self.new }
     {
-        let record = allowed_move(self, leaves, minutes, enters)?;
+        let laid = allowed_move(self, self.move_capacity(), leaves, minutes, enters)?;
         let n = self.move_count;
-        if n >= self.move_capacity() {
-            return Err(EditFault::MovesFull);
-        }
-        put_move(self.areas, n, record);
+        put(&mut self.areas.moves, n, laid);
         self.move_count = n + 1;
         Ok(n)
     }
@@ -149,19 +133,13 @@ impl<'a> Store for Tray<'a> {
         ensures kept { tray_room self.new ≡ tray_room self.old }
         ensures stays { SameLoan self.old self.new }
     {
-        let pieces = allowed_pieces(self, k, place)?;
-        let stage = self.stage_count;
-        if stage >= self.stage_capacity() {
-            return Err(EditFault::StagesFull);
-        }
+        let pieces = allowed_pieces(self, self.stage_capacity(), self.move_capacity(), k, place)?;
         let n = self.move_count;
-        if n >= self.move_capacity() {
-            return Err(EditFault::MovesFull);
-        }
-        put_move(self.areas, k, pieces.first);
-        put_move(self.areas, n, pieces.second);
+        put(&mut self.areas.moves, k, pieces.first);
+        put(&mut self.areas.moves, n, pieces.second);
         self.move_count = n + 1;
-        put_stage(self.areas, stage, SILENT);
+        let stage = self.stage_count;
+        put(&mut self.areas.stages, stage, SILENT);
         self.stage_count = stage + 1;
         Ok(stage)
     }
@@ -172,13 +150,13 @@ impl<'a> Store for Tray<'a> {
         ensures kept { tray_room self.new ≡ tray_room self.old }
         ensures stays { SameLoan self.old self.new }
     {
-        let joint = find_joint(self)?;
+        let joint = find_joint(self).ok_or(EditFault::NothingToJoin)?;
         let stages = self.stage_count;
         let n = self.move_count;
-        put_move(self.areas, joint.into, joint.whole);
-        take_move(self.areas, n, joint.out_of);
+        put(&mut self.areas.moves, joint.into, joint.whole);
+        take_out(&mut self.areas.moves, MOVE_BYTES, n, joint.out_of);
         self.move_count = n - 1;
-        take_stage(self.areas, stages, joint.stage);
+        take_out(&mut self.areas.stages, STAGE_BYTES, stages, joint.stage);
         self.stage_count = joint.stage;
         Ok(joint.stage)
     }

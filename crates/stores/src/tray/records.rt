@@ -1,114 +1,120 @@
-// The records of a tray as bytes. A stage: its marks (two bytes), its kind, a zero.
+// The records of a tray as bytes, and how they are written into an area, read there and taken out of it.
+// A stage: its marks (two bytes), its kind, a zero.
 // A move: the stage it leaves, the stage it enters, its minutes, a zero (two bytes each).
 // Numbers have their lower byte first.
-ghost use Rattle.std.specs.Prelude.{◌≡◌, ◌+◌, ◌*◌, ◌<◌, ◌≤◌, drop, vec_len};
-ghost use Rattle.stores.specs.Trays.{StagePut, MovePut, StageTaken, MoveTaken};
-ghost use Rattle.stores.specs.Records.{kind_byte, read_kind, stage_record, move_record, read_stage, read_move};
+ghost use Rattle.std.specs.Prelude.{◌≡◌, ◌+◌, ◌*◌, ◌/◌, ◌<◌, ◌≤◌, length, take, drop, vec_len};
+ghost use Rattle.stores.specs.Areas.{Layout, Lawful, put, taken_out};
+ghost use Rattle.stores.specs.Records.{stage_layout, move_layout, stage_lawful, move_lawful};
 
-use crate::tray::areas::Areas;
-use crate::tray::bytes::{low_high, number_at, put, take_out};
 use program::{Kind, Move, Stage};
 
 pub const STAGE_BYTES: usize = 4;
 
 pub const MOVE_BYTES: usize = 8;
 
-fn kind_byte(kind: Kind) -> u8
-    ensures { result ≡ kind_byte kind }
-{
-    match kind {
-        Kind::Open => 0,
-        Kind::Silent => 1,
+// A record that lies in an area as WIDTH bytes, and is read back from them.
+pub(crate) trait Record<const WIDTH: usize>: Copy {
+    ghost layout: { Layout Self };
+
+    fn to_bytes(self) -> [u8; WIDTH]
+        ensures { result ≡ layout.write self };
+
+    fn from_bytes(bytes: &[u8; WIDTH]) -> Self
+        ensures { result ≡ layout.read bytes.now };
+
+    ghost lawful: { Lawful layout };
+}
+
+impl Record<STAGE_BYTES> for Stage {
+    ghost layout = { stage_layout };
+
+    ghost lawful = { stage_lawful };
+
+    fn to_bytes(self) -> [u8; STAGE_BYTES] {
+        let [low, high] = self.marks.to_le_bytes();
+        [low, high, self.kind as u8, 0]
+    }
+
+    fn from_bytes(bytes: &[u8; STAGE_BYTES]) -> Stage {
+        let [low, high, kind, _] = *bytes;
+        Stage {
+            marks: u16::from_le_bytes([low, high]),
+            kind: match kind {
+                0 => Kind::Open,
+                _ => Kind::Silent,
+            },
+        }
     }
 }
 
-fn read_kind(byte: u8) -> Kind
-    ensures { result ≡ read_kind byte }
-{
-    match byte {
-        0 => Kind::Open,
-        _ => Kind::Silent,
+impl Record<MOVE_BYTES> for Move {
+    ghost layout = { move_layout };
+
+    ghost lawful = { move_lawful };
+
+    fn to_bytes(self) -> [u8; MOVE_BYTES] {
+        let [leaves, leaves_high] = self.leaves.to_le_bytes();
+        let [enters, enters_high] = self.enters.to_le_bytes();
+        let [minutes, minutes_high] = self.minutes.to_le_bytes();
+        [
+            leaves,
+            leaves_high,
+            enters,
+            enters_high,
+            minutes,
+            minutes_high,
+            0,
+            0,
+        ]
+    }
+
+    fn from_bytes(bytes: &[u8; MOVE_BYTES]) -> Move {
+        let [
+            leaves,
+            leaves_high,
+            enters,
+            enters_high,
+            minutes,
+            minutes_high,
+            _,
+            _,
+        ] = *bytes;
+        Move {
+            leaves: u16::from_le_bytes([leaves, leaves_high]),
+            minutes: u16::from_le_bytes([minutes, minutes_high]),
+            enters: u16::from_le_bytes([enters, enters_high]),
+        }
     }
 }
 
-fn stage_record(stage: Stage) -> [u8; STAGE_BYTES]
-    ensures { result ≡ stage_record stage }
+// Writes the record of number n, and leaves every other byte.
+pub(crate) fn put<const WIDTH: usize, R: Record<WIDTH>>(area: &mut Vec<u8>, n: usize, new: R)
+    requires { WIDTH * n + WIDTH ≤ vec_len area.old }
+    ensures items { area.new.items ≡ put area.old.items (WIDTH * n) (R.layout.write new) }
+    ensures len { vec_len area.new ≡ vec_len area.old }
 {
-    let [low, high] = low_high(stage.marks);
-    [low, high, kind_byte(stage.kind), 0]
+    let at = WIDTH * n;
+    area[at..at + WIDTH].copy_from_slice(&new.to_bytes());
 }
 
-fn move_record(laid: Move) -> [u8; MOVE_BYTES]
-    ensures { result ≡ move_record laid }
+// The record of number n.
+pub(crate) fn read<const WIDTH: usize, R: Record<WIDTH>>(area: &[u8], n: usize) -> R
+    requires wide { 0 < WIDTH }
+    requires in_area { n < length area.now / WIDTH }
+    ensures { result ≡ R.layout.read (take WIDTH (drop (WIDTH * n) area.now)) }
 {
-    let [leaves, leaves_high] = low_high(laid.leaves);
-    let [enters, enters_high] = low_high(laid.enters);
-    let [minutes, minutes_high] = low_high(laid.minutes);
-    [
-        leaves,
-        leaves_high,
-        enters,
-        enters_high,
-        minutes,
-        minutes_high,
-        0,
-        0,
-    ]
+    R::from_bytes(&area.as_chunks().0[n])
 }
 
-// Writes the stage of number n, and leaves every other byte.
-pub(crate) fn put_stage(areas: &mut Areas, n: usize, stage: Stage)
-    requires { 4 * n + 4 ≤ vec_len areas.old.stages }
-    ensures { StagePut areas.old n stage areas.new }
+// Takes out record k of `count`, where each is `width` bytes wide: later ones stand one place lower, and zeros take the
+// last place.
+pub(crate) fn take_out(area: &mut Vec<u8>, width: usize, count: usize, k: usize)
+    requires { (k < count) × (width * count ≤ vec_len area.old) }
+    ensures items { area.new.items
+        ≡ taken_out width count k area.old.items }
+    ensures len { vec_len area.new ≡ vec_len area.old }
 {
-    put(&mut areas.stages, STAGE_BYTES * n, &stage_record(stage));
-}
-
-// Writes the move of number n, and leaves every other byte.
-pub(crate) fn put_move(areas: &mut Areas, n: usize, laid: Move)
-    requires { 8 * n + 8 ≤ vec_len areas.old.moves }
-    ensures { MovePut areas.old n laid areas.new }
-{
-    put(&mut areas.moves, MOVE_BYTES * n, &move_record(laid));
-}
-
-// Takes out stage k of `count`.
-pub(crate) fn take_stage(areas: &mut Areas, count: usize, k: usize)
-    requires { (k < count) × (4 * count ≤ vec_len areas.old.stages) }
-    ensures { StageTaken areas.old count k areas.new }
-{
-    take_out(&mut areas.stages, STAGE_BYTES, count, k);
-}
-
-// Takes out move k of `count`.
-pub(crate) fn take_move(areas: &mut Areas, count: usize, k: usize)
-    requires { (k < count) × (8 * count ≤ vec_len areas.old.moves) }
-    ensures { MoveTaken areas.old count k areas.new }
-{
-    take_out(&mut areas.moves, MOVE_BYTES, count, k);
-}
-
-// The stage of number n.
-pub(crate) fn read_stage(area: &Vec<u8>, n: usize) -> Stage
-    requires { 4 * n + 4 ≤ vec_len area.now }
-    ensures { result ≡ read_stage (drop (4 * n) area.now.items) }
-{
-    let at = STAGE_BYTES * n;
-    Stage {
-        marks: number_at(area, at),
-        kind: read_kind(area[at + 2]),
-    }
-}
-
-// The move of number n.
-pub(crate) fn read_move(area: &Vec<u8>, n: usize) -> Move
-    requires { 8 * n + 8 ≤ vec_len area.now }
-    ensures { result ≡ read_move (drop (8 * n) area.now.items) }
-{
-    let at = MOVE_BYTES * n;
-    Move {
-        leaves: number_at(area, at),
-        minutes: number_at(area, at + 4),
-        enters: number_at(area, at + 2),
-    }
+    let last = width * (count - 1);
+    area.copy_within(width * (k + 1)..width * count, width * k);
+    area[last..last + width].fill(0);
 }

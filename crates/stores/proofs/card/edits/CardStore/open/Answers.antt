@@ -1,32 +1,21 @@
-use Rattle.std.proofs.Common.{◌<◌, length, refl, arith}
-use Rattle.std.proofs.lemmas.List.{length-set, length-take-le}
+use Rattle.std.proofs.Common.{[], ◌∷◌, ◌++◌, refl, ap, ◌∙◌}
+use Rattle.std.proofs.lemmas.Result.{err_from_is_err_and}
+use Rattle.program.specs.declared.Stage.{Stage}
 use Rattle.program.specs.declared.edit.Edit.TheVariants as edit
-use Rattle.program.proofs.Doing.{opens}
+use Rattle.program.proofs.Doing.{opens, same_prog}
 use Rattle.program.proofs.Kept.{does_tidy}
 use Rattle.stores.specs.Cards.{card_caps}
-use Rattle.stores.proofs.Cards.{card_opened}
-use Rattle.stores.proofs.Kept.{ends_kept_by_open}
+use Rattle.stores.proofs.Refusals.{refuses}
 use Rattle.stores.proofs.card.edits.CardStore.open.Goals as goal
 
-pub invariant_of-self : goal.invariant_of-self
-invariant_of-self c =
-    let card = c.args.self.now in
-    let h : card.stages.count < length card.stages.records = omega arith in
-    let opened = card_opened _ card.moves.count _ card.moves.records c.args.marks h in
-    let ends = ends_kept_by_open _ _ c.args.marks opened card.ends in
-    record {
-      stage_table = simp length-set card.stage_table;
-      move_table = card.move_table;
-      stage_room = omega arith;
-      move_room = card.move_room;
-      ends = ends;
-    }
+pub returns-in_err-opened-clause-does : goal.returns-in_err-opened-clause-does
+returns-in_err-opened-clause-does c =
+    let p = err_from_is_err_and c.from_residual.result c.from_residual.ensures.1 in
+    rw (p.1, p.2) (refuses _ _ _ (c.in_err-opened.ensures card_caps refl))
 
-pub returns : goal.returns
-returns c =
-    let card = c.args.self.now in
-    let h : card.stages.count < length card.stages.records = omega arith in
-    let opened = card_opened _ card.moves.count _ card.moves.records c.args.marks h in
-    let n = length-take-le card.stages.count card.stages.records (omega arith) in
-    let does = opens card_caps _ _ _ _ n (omega arith) opened in
-    record { does = does; tidy = does_tidy card_caps _ _ (edit.Open c.args.marks) _ (λ _. does); kept = refl }
+pub returns-clause-tidy : goal.returns-clause-tidy
+returns-clause-tidy c =
+    let allowed = c.in_ok-opened.ensures in
+    let stages = c.push.ensures.appended ∙ ap (λ (v : Stage). c.args.self.now.stages ++ (v ∷ [])) allowed.is in
+    does_tidy card_caps _ _ (edit.Open c.args.marks) _
+    (λ _. opens card_caps _ _ _ _ refl allowed.fits (same_prog _ _ stages refl))

@@ -8,7 +8,8 @@ use Rattle.stores.proofs.Areas.{get_or-in_use}
 use Rattle.stores.proofs.tray.edits.TrayProgram.move_at.Goals as goal
 
 pub returns-then-k-self : goal.returns-then-k-self
-returns-then-k-self c = c.read_move.ensures ∙ sym (get_or-in_use move_layout _ _ _ no_move c.if-k-self.true)
+returns-then-k-self c =
+    rw c.deref.ensures.value at c.read.ensures ∙ sym (get_or-in_use move_layout _ _ _ no_move c.if-k-self.true)
 
 pub returns-else-k-self : goal.returns-else-k-self
 returns-else-k-self c =

@@ -8,7 +8,8 @@ use Rattle.stores.proofs.Areas.{get_or-in_use}
 use Rattle.stores.proofs.tray.edits.TrayProgram.stage.Goals as goal
 
 pub returns-then-s-self : goal.returns-then-s-self
-returns-then-s-self c = c.read_stage.ensures ∙ sym (get_or-in_use stage_layout _ _ _ no_stage c.if-s-self.true)
+returns-then-s-self c =
+    rw c.deref.ensures.value at c.read.ensures ∙ sym (get_or-in_use stage_layout _ _ _ no_stage c.if-s-self.true)
 
 pub returns-else-s-self : goal.returns-else-s-self
 returns-else-s-self c =

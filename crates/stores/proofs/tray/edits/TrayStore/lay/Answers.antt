@@ -1,72 +1,45 @@
-use Rattle.std.proofs.Common.{refl, arith}
+use Rattle.std.proofs.Common.{sym, arith}
 use Rattle.std.proofs.lemmas.Result.{err_from_is_err_and}
 use Rattle.program.specs.declared.edit.Edit.TheVariants as edit
+use Rattle.program.proofs.Doing.{lays}
 use Rattle.program.proofs.Kept.{does_tidy}
-use Rattle.stores.specs.Records.{move_layout}
 use Rattle.stores.specs.Trays.{areas_room}
-use Rattle.stores.specs.InUse.{length_in_use}
-use Rattle.stores.proofs.Trays.{tray_laid, move_put_long, same_room}
-use Rattle.stores.proofs.Refusals.{lay_full, allowed_lays}
+use Rattle.stores.specs.InUse.{moves_counted}
+use Rattle.stores.proofs.Trays.{tray_laid}
+use Rattle.stores.proofs.Refusals.{refuses}
 use Rattle.stores.proofs.Kept.{ends_kept_by_lay}
 use Rattle.stores.proofs.tray.edits.TrayStore.lay.Goals as goal
 
-pub returns-in_err-record : goal.returns-in_err-record
-returns-in_err-record c =
-    let tray = c.args.self.now in
+pub returns-in_err-laid-clause-does : goal.returns-in_err-laid-clause-does
+returns-in_err-laid-clause-does c =
     let p = err_from_is_err_and c.from_residual.result c.from_residual.ensures.1 in
-    rw (p.1, p.2, c.in_err-record.ensures (areas_room tray.areas.now))
-    (record {
-      does = record { answers = refl; leaves = refl };
-      tidy = λ t. t;
-      kept = refl;
-      stays = record { loan = refl; long = record { stages = refl; moves = refl } };
-    })
+    rw (p.1, p.2)
+    (refuses _ _ _ (c.in_err-laid.ensures (areas_room c.args.self.now.areas.now) (sym c.move_capacity.ensures)))
 
-pub returns-then-n-move_capacity : goal.returns-then-n-move_capacity
-returns-then-n-move_capacity c =
+pub invariant_of-self-clause-move_area : goal.invariant_of-self-clause-move_area
+invariant_of-self-clause-move_area c =
     let tray = c.args.self.now in
-    let n = length_in_use move_layout tray.move_count tray.areas.now.moves.items in
-    let allowed = c.in_ok-record.ensures in
-    let room = c.move_capacity.ensures in
-    record {
-      does = lay_full (areas_room tray.areas.now) _ _ _ _ _ allowed (omega (arith, n, room));
-      tidy = λ t. t;
-      kept = refl;
-      stays = record { loan = refl; long = record { stages = refl; moves = refl } };
-    }
+    (tray_laid _ _ _ _ tray.stage_area tray.move_area _ _ _ _ _ c.in_ok-laid.ensures.is c.put.ensures.items).move_area
 
-pub invariant_of-self : goal.invariant_of-self
-invariant_of-self c =
+pub invariant_of-self-clause-ends : goal.invariant_of-self-clause-ends
+invariant_of-self-clause-ends c =
     let tray = c.args.self.now in
-    let allowed = c.in_ok-record.ensures in
-    let put = c.put_move.ensures in
-    let laid = tray_laid _ _ _ tray.stage_area tray.move_area _ _ _ _ _ allowed.is put in
-    let long = move_put_long _ _ _ _ put in
-    let ends = ends_kept_by_lay _ _ _ _ _ _ allowed laid.is tray.ends in
-    let room = c.move_capacity.ensures in
-    record {
-      stage_area = laid.stage_area;
-      move_area = laid.move_area;
-      stage_room = omega arith;
-      move_room = omega (arith, room);
-      ends = ends;
-    }
+    let a = c.in_ok-laid.ensures in
+    let laid = tray_laid _ _ _ _ tray.stage_area tray.move_area _ _ _ _ _ a.is c.put.ensures.items in
+    ends_kept_by_lay _ _ _ _ _ _ _ a laid.is tray.ends
 
-pub returns : goal.returns
-returns c =
+pub returns-clause-does : goal.returns-clause-does
+returns-clause-does c =
     let tray = c.args.self.now in
-    let allowed = c.in_ok-record.ensures in
-    let put = c.put_move.ensures in
-    let laid = tray_laid _ _ _ tray.stage_area tray.move_area _ _ _ _ _ allowed.is put in
-    let long = move_put_long _ _ _ _ put in
-    let n = length_in_use move_layout tray.move_count tray.areas.now.moves.items in
+    let a = c.in_ok-laid.ensures in
+    let laid = tray_laid _ _ _ _ tray.stage_area tray.move_area _ _ _ _ _ a.is c.put.ensures.items in
+    let n = moves_counted tray.move_count _ in
+    let fits = a.fits in
     let room = c.move_capacity.ensures in
-    let caps = areas_room tray.areas.now in
-    let does = allowed_lays caps _ _ _ _ _ _ _ allowed n (omega (arith, room)) laid.is in
-    let made = edit.Lay c.args.leaves c.args.minutes c.args.enters in
-    record {
-      does = does;
-      tidy = does_tidy caps _ _ made _ (λ _. does);
-      kept = same_room _ _ long;
-      stays = record { loan = refl; long = long };
-    }
+    lays (areas_room tray.areas.now) _ _ _ _ _ _ a.leaves_stage a.enters_stage a.leaves_open a.enters_open a.short n
+    (omega arith) laid.is
+
+pub returns-clause-tidy : goal.returns-clause-tidy
+returns-clause-tidy c =
+    does_tidy (areas_room c.args.self.now.areas.now) _ _ (edit.Lay c.args.leaves c.args.minutes c.args.enters) _
+    (λ _. returns-clause-does c)
