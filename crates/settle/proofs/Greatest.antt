@@ -121,13 +121,12 @@ module _ (stages : List Stage) (moves : List Move) (within : Within (length stag
           onward = λ s t.
               let o = table_e (among after) n s t in
               let w = watching s o.0 o.1 in
-              let k = get_or r.watched s 0 - 1 in
-              let low : k < length moves = omega (arith, w.low, w.real) in
+              let k = w.by in
               leads_graph (at (row n after)) s k (record {
-                real = low;
+                real = w.real;
                 leaves = w.leaves;
                 counts = w.counts;
-                enters = table_i (among after) n (end_at Enters moves k) (within k low).1
+                enters = table_i (among after) n (end_at Enters moves k) (within k w.real).1
                     (⊎_elim (λ t. t) (λ f. absurd f) w.enters);
               });
         })
