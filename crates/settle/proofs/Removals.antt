@@ -8,7 +8,7 @@ use Rattle.tally.specs.Walks.{among}
 use Rattle.tctl.proofs.Basics.{card, card_lt, card_top}
 use Rattle.program.specs.declared.End.TheVariants.{Leaves, Enters}
 use Rattle.settle.specs.declared.endless.Sort.{Sort}
-use Rattle.settle.specs.Chains.{bound, end_at, link_at}
+use Rattle.settle.specs.Chains.{end_at, link_at}
 use Rattle.settle.proofs.Chains.{Step}
 use Rattle.settle.specs.declared.removal.Removal.{Removal}
 use Rattle.settle.specs.Removals.{Leads, NoneAtOrPast, From, Watched, Watching, Due, Booked, Gone, Outside, Lasting, Inside}

@@ -57,12 +57,7 @@ fn leave_last(pass: &[u32], last: &mut [u32]) {
 impl ChainedWalks<'_, '_, '_> {
     // Adds to what the table says of the stage that a move leaves what it says of the stage that the move enters, with the
     // move's minutes before it. Where that changes something, the stage is put into the queue.
-    fn pour_back<T: Tally>(
-        &self,
-        k: usize,
-        table: &mut [T],
-        queue: &mut Queue,
-    ) -> Result<(), Full>
+    fn pour_back<T: Tally>(&self, k: usize, table: &mut [T], queue: &mut Queue) -> Result<(), Full>
         requires real { k < length self.now.walks.moves.now }
         requires room { self.now.walks.stages ≤ length table.old }
         ensures place { InPlace T.Tally.algebra (among self.now.walks.pass.now)
@@ -89,12 +84,7 @@ impl ChainedWalks<'_, '_, '_> {
     }
 
     // Takes what the table says of a stage back over the moves that enter it.
-    fn pull<T: Tally>(
-        &self,
-        stage: usize,
-        table: &mut [T],
-        queue: &mut Queue,
-    ) -> Result<(), Full>
+    fn pull<T: Tally>(&self, stage: usize, table: &mut [T], queue: &mut Queue) -> Result<(), Full>
         requires stage { stage < self.now.walks.stages }
         requires room { self.now.walks.stages ≤ length table.old }
         requires lined { Lined self.now.walks.stages queue.old }

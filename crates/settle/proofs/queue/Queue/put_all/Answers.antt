@@ -1,4 +1,4 @@
-use Rattle.std.proofs.Common.{ℕ, ◌+◌, ◌<◌, get_or, sym, subst, arith, length-take, ltb→lt}
+use Rattle.std.proofs.Common.{◌+◌, ◌<◌, get_or, sym, subst, arith, length-take, ltb→lt}
 use Rattle.std.proofs.lemmas.List.{get_or-take}
 use Rattle.tally.specs.Walks.{among}
 use Rattle.settle.specs.declared.queue.Queue.{Queue}

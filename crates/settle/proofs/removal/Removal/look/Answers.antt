@@ -1,11 +1,10 @@
-use Rattle.std.proofs.Common.{◌≡◌, ℕ, ◌<◌, T, ◌⊎◌, List, length, Some, sym, ap, ◌∙◌, subst, inl, inr, ⊎_elim, arith}
+use Rattle.std.proofs.Common.{◌≡◌, ℕ, ◌<◌, T, ◌⊎◌, List, length, Some, sym, ap, ◌∙◌, subst, inl, inr, ⊎_elim}
 use Rattle.std.proofs.lemmas.Bool.{false≢true}
-use Rattle.program.specs.Meaning.{no_move}
 use Rattle.tally.specs.Walks.{among}
 use Rattle.program.specs.declared.End.TheVariants.{Leaves, Enters}
 use Rattle.settle.specs.declared.removal.Removal.{Removal}
 use Rattle.settle.specs.Chains.{bound, end_at, link_at}
-use Rattle.settle.specs.Removals.{NoneAtOrPast, Watching, Due, Removes}
+use Rattle.settle.specs.Removals.{Watching, Due, Removes}
 use Rattle.settle.proofs.Chains.{step, chain_more}
 use Rattle.settle.proofs.Removals.{removes_more, watching_more, watching_next}
 use Rattle.settle.proofs.removal.Removal.look.Goals as goal

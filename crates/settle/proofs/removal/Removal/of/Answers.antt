@@ -1,5 +1,4 @@
-use Rattle.std.proofs.Common.{◌≡◌, ℕ, ◌<◌, ◌≤◌, ◌⊎◌, Option, List, length, sym, ap, ◌∙◌, subst, inl, inr, ⊎_elim, arith}
-use Rattle.tctl.proofs.Basics.{card_top}
+use Rattle.std.proofs.Common.{◌≡◌, ℕ, ◌⊎◌, Option, List, length, sym, ◌∙◌, subst, inl, inr, ⊎_elim}
 use Rattle.tally.specs.Walks.{among}
 use Rattle.program.specs.declared.End.TheVariants.{Enters}
 use Rattle.settle.specs.declared.removal.Removal.{Removal}

@@ -1,4 +1,4 @@
-use Rattle.std.proofs.Common.{◌<◌, get_or, length, sym, ◌∙◌, ap, subst, arith}
+use Rattle.std.proofs.Common.{◌<◌, get_or, length, sym, ◌∙◌, ap, subst}
 use Rattle.settle.proofs.Queues.{lined_more}
 use Rattle.settle.proofs.removal.Removal.put_gone.Goals as goal
 
