@@ -1,6 +1,7 @@
 -- What a removal keeps when a stage comes to watch another move, and when it is gone.
-use Rattle.std.proofs.Common.{◌≡◌, ℕ, ◌+◌, ◌<◌, ◌≤◌, Bool, true, false, if◌then◌else◌, T, ltb, ◌⊎◌, List, length, get_or, set, Option, Some, None}
-use Rattle.std.proofs.Common.{[], ◌∷◌, ◌++◌, sym, refl, ap, ◌∙◌, subst, inl, inr, ⊎_elim, arith, length-append}
+use Rattle.std.proofs.Common.{◌≡◌, ℕ, ◌+◌, ◌<◌, ◌≤◌, Bool, true, false, if◌then◌else◌, T, ltb, ◌⊎◌, Option, Some, None}
+use Rattle.std.proofs.Common.{List, [], ◌∷◌, ◌++◌, length, get_or, set, sym, refl, ap, ◌∙◌, subst, inl, inr, ⊎_elim}
+use Rattle.std.proofs.Common.{arith, length-append}
 use Rattle.std.proofs.lemmas.List.{get_or-set_same, get_or-set_other, get_or_push, get_or_append_left, length-set}
 use Rattle.std.proofs.lemmas.Bool.{cases_eq, cases_lt, false≢true}
 use Rattle.program.specs.declared.Move.{Move}
@@ -11,14 +12,15 @@ use Rattle.settle.specs.declared.endless.Sort.{Sort}
 use Rattle.settle.specs.Chains.{end_at, link_at}
 use Rattle.settle.proofs.Chains.{Step}
 use Rattle.settle.specs.declared.removal.Removal.{Removal}
-use Rattle.settle.specs.Removals.{Leads, NoneAtOrPast, From, Watched, Watching, Due, Booked, Gone, Outside, Lasting, Inside}
-use Rattle.settle.specs.Removals.{Shrinks, Removes, Rewatches}
+use Rattle.settle.specs.declared.links.Chained.{Chained}
+use Rattle.settle.specs.Removals.{stages_of, moves_of, Leads, NoneAtOrPast, From, Watched, WatchingBelow, Watching, Due}
+use Rattle.settle.specs.Removals.{Booked, Gone, Outside, Lasting, Inside, Shrinks, Removes, Rewatches}
 
 -- While a stage is left there is room for one more that is gone.
-pub room_left : (n : ℕ) (set : List ℕ) (r : Removal) → Booked n set r → (stage : ℕ) → stage < n → T (among set stage)
-    → length r.gone.items < n
-room_left n set r booked stage l t =
-    let some = card_lt (λ x. false) (among set) (λ x f. absurd f) stage (λ f. f) t n l in
+pub room_left : (p : Chained) (set : List ℕ) (r : Removal) → Booked p set r → (stage : ℕ) → stage < stages_of p
+    → T (among set stage) → length r.gone.items < stages_of p
+room_left p set r booked stage l t =
+    let some = card_lt (λ x. false) (among set) (λ x f. absurd f) stage (λ f. f) t (stages_of p) l in
     let room = booked.room in
     omega arith
 
@@ -29,20 +31,21 @@ both_hold true false e = absurd (false≢true e)
 both_hold false b e = absurd (false≢true e)
 
 -- At the beginning no stage is gone.
-pub booked_none : (n : ℕ) (set : List ℕ) (r : Removal) → n ≤ length set → r.gone.items ≡ [] → Booked n set r
-booked_none n set r wide none = record {
+pub booked_none : (p : Chained) (set : List ℕ) (r : Removal) → stages_of p ≤ length set → r.gone.items ≡ []
+    → Booked p set r
+booked_none p set r wide none = record {
   wide = wide;
-  room = let h = card_top (among set) n in omega (arith, ap length none);
+  room = let h = card_top (among set) (stages_of p) in omega (arith, ap length none);
   outside = λ i l. absurd (omega (arith, ap length none));
 }
 
 -- What is kept where no more stages are gone.
-pub booked_same : (n : ℕ) (set : List ℕ) (r after : Removal) → after.gone.items ≡ r.gone.items → Booked n set r
-    → Booked n set after
-booked_same n set r after e booked = record {
+pub booked_same : (p : Chained) (set : List ℕ) (r after : Removal) → after.gone.items ≡ r.gone.items → Booked p set r
+    → Booked p set after
+booked_same p set r after e booked = record {
   wide = booked.wide;
-  room = subst (λ xs. card (among set) n + length xs ≤ n) (sym e) booked.room;
-  outside = subst (λ xs. (i : ℕ) → i < length xs → Outside n (among set) (get_or xs i 0)) (sym e) booked.outside;
+  room = subst (λ xs. card (among set) (stages_of p) + length xs ≤ stages_of p) (sym e) booked.room;
+  outside = subst (λ xs. (i : ℕ) → i < length xs → Outside p (among set) (get_or xs i 0)) (sym e) booked.outside;
 }
 
 gone_same : (r after : Removal) → after.gone.items ≡ r.gone.items → after.done ≡ r.done → (stage : ℕ) → Gone r stage
@@ -55,16 +58,16 @@ gone_same r after e done stage g = record {
 }
 
 -- A stage with a move into the set watches it.
-pub rewatched : (sort : Sort) (n : ℕ) (moves : List Move) (stage : ℕ) (was : List ℕ) (r after : Removal)
-    → Booked n was r → stage < length r.watched → (link : Option ℕ) (k : ℕ) → link ≡ Some k
-    → Leads sort moves (among was) stage k → NoneAtOrPast sort moves (among was) stage (k + 1)
+pub rewatched : (sort : Sort) (p : Chained) (stage : ℕ) (was : List ℕ) (r after : Removal) → Booked p was r
+    → stage < length r.watched → (link : Option ℕ) (k : ℕ) → link ≡ Some k
+    → Leads sort (moves_of p) (among was) stage k → NoneAtOrPast sort (moves_of p) (among was) stage (k + 1)
     → after.watched ≡ set r.watched stage link → after.gone.items ≡ r.gone.items → after.done ≡ r.done
-    → Rewatches sort n moves stage was was r after
-rewatched sort n moves stage was r after booked low link k is lead none watched gone done = record {
+    → Rewatches sort p stage was was r after
+rewatched sort p stage was r after booked low link k is lead none watched gone done = record {
   removes = record {
     shrinks = record { inside = λ x h. h; lasts = λ part lasting inside. inside };
     rest = λ i h. refl;
-    booked = booked_same n was r after gone booked;
+    booked = booked_same p was r after gone booked;
     done = done;
   };
   others = λ other ne. ap (λ ws. link_at ws other) watched ∙ get_or-set_other r.watched stage other link None ne;
@@ -81,8 +84,9 @@ rewatched sort n moves stage was r after booked low link k is lead none watched 
   left = λ other t. inl t;
 }
 
-module _ (sort : Sort) (n : ℕ) (moves : List Move) (stage : ℕ) (was : List ℕ) (r : Removal) (booked : Booked n was r)
-    (low : stage < n) (left : T (among was stage)) (useless : NoneAtOrPast sort moves (among was) stage 0) where
+module _ (sort : Sort) (p : Chained) (stage : ℕ) (was : List ℕ) (r : Removal) (booked : Booked p was r)
+    (low : stage < stages_of p) (left : T (among was stage))
+    (useless : NoneAtOrPast sort (moves_of p) (among was) stage 0) where
   abbrev fewer : List ℕ
   fewer = set was stage 0
 
@@ -101,7 +105,7 @@ module _ (sort : Sort) (n : ℕ) (moves : List Move) (stage : ℕ) (was : List �
       (λ ne. subst (λ x. T (ltb 0 x)) (get_or-set_other was stage s 0 0 ne) t) (cases_eq s stage)
 
   -- No part that lasts has the stage.
-  lasts_left : (part : ℕ → Bool) → Lasting sort moves part → Inside part (among was) → Inside part (among fewer)
+  lasts_left : (part : ℕ → Bool) → Lasting sort (moves_of p) part → Inside part (among was) → Inside part (among fewer)
   lasts_left part lasting inside s t =
       ⊎_elim
       (λ e.
@@ -125,20 +129,20 @@ module _ (sort : Sort) (n : ℕ) (moves : List Move) (stage : ℕ) (was : List �
     others_gone : (i : ℕ) → i < length r.gone.items → get_or after.gone.items i 0 ≡ get_or r.gone.items i 0
     others_gone i l = ap (λ xs. get_or xs i 0) gone ∙ get_or_append_left r.gone.items (stage ∷ []) 0 i l
 
-    still_outside : (i : ℕ) → i < length after.gone.items → Outside n (among fewer) (get_or after.gone.items i 0)
+    still_outside : (i : ℕ) → i < length after.gone.items → Outside p (among fewer) (get_or after.gone.items i 0)
     still_outside i l =
         ⊎_elim
         (λ e.
-        subst (λ x. Outside n (among fewer) (get_or after.gone.items x 0)) (sym e)
-        (subst (λ x. Outside n (among fewer) x) (sym last_gone) (low, not_left)))
+        subst (λ x. Outside p (among fewer) (get_or after.gone.items x 0)) (sym e)
+        (subst (λ x. Outside p (among fewer) x) (sym last_gone) (low, not_left)))
         (λ ne.
         let before : i < length r.gone.items = let h = longer in omega arith in
         let o = booked.outside i before in
-        subst (λ x. Outside n (among fewer) x) (sym (others_gone i before)) (o.0, λ t. o.1 (fewer_inside _ t)))
+        subst (λ x. Outside p (among fewer) x) (sym (others_gone i before)) (o.0, λ t. o.1 (fewer_inside _ t)))
         (cases_eq i (length r.gone.items))
 
     -- A stage with no move into the set is gone.
-    pub removed : Rewatches sort n moves stage was fewer r after
+    pub removed : Rewatches sort p stage was fewer r after
     removed = record {
       removes = record {
         shrinks = record { inside = fewer_inside; lasts = lasts_left };
@@ -147,7 +151,7 @@ module _ (sort : Sort) (n : ℕ) (moves : List Move) (stage : ℕ) (was : List �
           wide = let h = booked.wide in omega (arith, length-set was stage 0);
           room =
               let less =
-              card_lt (among fewer) (among was) fewer_inside stage not_left left n low in
+              card_lt (among fewer) (among was) fewer_inside stage not_left left (stages_of p) low in
               let h = booked.room in
               let e = longer in
               omega arith;
@@ -177,7 +181,13 @@ module _ (sort : Sort) (n : ℕ) (moves : List Move) (stage : ℕ) (was : List �
           (λ ne. inl (others_left other ne t)) (cases_eq other stage);
     }
 
-module _ (sort : Sort) (n : ℕ) (moves : List Move) where
+module _ (sort : Sort) (p : Chained) where
+  abbrev n : ℕ
+  n = stages_of p
+
+  abbrev moves : List Move
+  moves = moves_of p
+
   -- A set shrinks again.
   pub shrinks_more : (was mid after : ℕ → Bool) → Shrinks sort moves was mid → Shrinks sort moves mid after
       → Shrinks sort moves was after
@@ -187,8 +197,8 @@ module _ (sort : Sort) (n : ℕ) (moves : List Move) where
   }
 
   -- One removal after another.
-  pub removes_more : (was mid after : List ℕ) (r s t : Removal) → Removes sort n moves was mid r s
-      → Removes sort n moves mid after s t → Removes sort n moves was after r t
+  pub removes_more : (was mid after : List ℕ) (r s t : Removal) → Removes sort p was mid r s
+      → Removes sort p mid after s t → Removes sort p was after r t
   removes_more was mid after r s t one two = record {
     shrinks = shrinks_more (among was) (among mid) (among after) one.shrinks two.shrinks;
     rest = λ i h. two.rest i h ∙ one.rest i h;
@@ -218,11 +228,11 @@ module _ (sort : Sort) (n : ℕ) (moves : List Move) where
 
   -- Each of the first stages watches a move again once one of them has come to watch another.
   pub watching_more : (m stage : ℕ) (was after : List ℕ) (r s : Removal) (due next : ℕ → Type 0)
-      → Rewatches sort n moves stage was after r s
-      → ((k : ℕ) → (end_at Leaves moves k ≡ stage → ⊥) → due k → next k) → ((k : ℕ) → Due moves s k → next k)
+      → Rewatches sort p stage was after r s
+      → ((k : ℕ) → (end_at Leaves moves k ≡ stage → ⊥) → due k → next k) → ((k : ℕ) → Due p s k → next k)
       → ((other : ℕ) → other < m → (other ≡ stage → ⊥) → T (among was other)
       → Watched sort moves (among was) due other (link_at r.watched other))
-      → Watching sort moves (among after) next m s
+      → WatchingBelow m sort moves (among after) next s
   watching_more m stage was after r s due next re still gone others other l t =
       ⊎_elim
       (λ e.
@@ -251,7 +261,7 @@ module _ (sort : Sort) (n : ℕ) (moves : List Move) where
 
   -- Each of the first stages watches a move where fewer are due, if what was due is.
   pub watching_due : (set : ℕ → Bool) (r : Removal) (due next : ℕ → Type 0) → ((k : ℕ) → due k → next k)
-      → Watching sort moves set due n r → Watching sort moves set next n r
+      → Watching sort p set due r → Watching sort p set next r
   watching_due set r due next still watching stage l t =
       let w = watching stage l t in
       watched_more set set due next stage (link_at r.watched stage) (λ x h. h) w (λ h. inl h) (still w.by)
@@ -260,7 +270,7 @@ module _ (sort : Sort) (n : ℕ) (moves : List Move) where
   pub watching_next : (set : ℕ → Bool) (r : Removal) (due next : ℕ → Type 0) (k : ℕ)
       → ((j : ℕ) → (j ≡ k → ⊥) → due j → next j)
       → (T (set (end_at Leaves moves k)) → link_at r.watched (end_at Leaves moves k) ≡ Some k → ⊥)
-      → Watching sort moves set due n r → Watching sort moves set next n r
+      → Watching sort p set due r → Watching sort p set next r
   watching_next set r due next k still other watching stage l t =
       let w = watching stage l t in
       watched_more set set due next stage (link_at r.watched stage) (λ x h. h) w (λ h. inl h)

@@ -8,9 +8,17 @@ use Rattle.tally.specs.Walks.{among}
 use Rattle.tctl.proofs.Basics.{card}
 use Rattle.program.specs.declared.End.TheVariants.{Leaves, Enters}
 use Rattle.settle.specs.declared.endless.Sort.{Sort}
+use Rattle.settle.specs.declared.links.Chained.{Chained}
 use Rattle.settle.specs.declared.removal.Removal.{Removal}
 use Rattle.settle.specs.Chains.{bound, end_at, link_at, Reaches}
 use Rattle.settle.specs.Rows.{sort_of, RestKept}
+
+-- How many stages a program has, and its moves.
+abbrev pub stages_of : Chained → ℕ
+stages_of p = length p.lists.stages.now
+
+abbrev pub moves_of : Chained → List Move
+moves_of p = p.lists.moves.now
 
 -- Whether the move with a number is of a sort.
 abbrev pub sorted : Sort → List Move → ℕ → Bool
@@ -32,7 +40,8 @@ pub record From (sort : Sort) (moves : List Move) (set : ℕ → Bool) (stage : 
   pub reaches : Reaches Leaves moves stage link
   pub none : NoneAtOrPast sort moves set stage (bound link)
 
--- A stage watches the move of a link: it is of the sort and leads into the set, unless it is due, and no higher one does.
+-- A stage watches the move of a link: it is of the sort and leads into the set, unless it is due, and no higher one
+-- does.
 pub record Watched (sort : Sort) (moves : List Move) (set : ℕ → Bool) (due : ℕ → Type 0) (stage : ℕ) (link : Option ℕ)
     : Type 0 where
   pub by : ℕ
@@ -43,10 +52,14 @@ pub record Watched (sort : Sort) (moves : List Move) (set : ℕ → Bool) (due :
   pub enters : T (set (end_at Enters moves by)) ⊎ due by
   pub no_higher : NoneAtOrPast sort moves set stage (by + 1)
 
--- Each of the first stages that is in the set watches a move.
-abbrev pub Watching : Sort → List Move → (ℕ → Bool) → (due : ℕ → Type 0) → ℕ → Removal → Type 0
-Watching sort moves set due n r =
+-- Each of the first n stages that is in the set watches a move.
+abbrev pub WatchingBelow : ℕ → Sort → List Move → (ℕ → Bool) → (due : ℕ → Type 0) → Removal → Type 0
+WatchingBelow n sort moves set due r =
     (stage : ℕ) → stage < n → T (set stage) → Watched sort moves set due stage (link_at r.watched stage)
+
+-- Each stage that is in the set watches a move.
+abbrev pub Watching : Sort → Chained → (ℕ → Bool) → (due : ℕ → Type 0) → Removal → Type 0
+Watching sort p = WatchingBelow (stages_of p) sort (moves_of p)
 
 -- A stage is gone, and the moves that enter it are still to be looked at.
 pub record Gone (r : Removal) (stage : ℕ) : Type 0 where
@@ -56,19 +69,19 @@ pub record Gone (r : Removal) (stage : ℕ) : Type 0 where
   pub is : slice_index r.gone.items place ≡ stage
 
 -- A move is due if it enters a stage that is gone.
-abbrev pub Due : List Move → Removal → ℕ → Type 0
-Due moves r k = Gone r (end_at Enters moves k)
+abbrev pub Due : Chained → Removal → ℕ → Type 0
+Due p r k = Gone r (end_at Enters (moves_of p) k)
 
 -- A stage that is not left of a set.
-abbrev pub Outside : ℕ → (ℕ → Bool) → ℕ → Type 0
-Outside n set stage = (stage < n) × (T (set stage) → ⊥)
+abbrev pub Outside : Chained → (ℕ → Bool) → ℕ → Type 0
+Outside p set stage = (stage < stages_of p) × (T (set stage) → ⊥)
 
--- The set has a word for each of n stages. Those that are gone are stages and not left, and with those that are left they
--- are not more than all stages.
-pub record Booked (n : ℕ) (set : List ℕ) (r : Removal) : Type 0 where
-  pub wide : n ≤ length set
-  pub room : card (among set) n + length r.gone.items ≤ n
-  pub outside : (i : ℕ) → i < length r.gone.items → Outside n (among set) (slice_index r.gone.items i)
+-- The set has a word for each stage. Those that are gone are stages and not left, and with those that are left they are
+-- not more than all stages.
+pub record Booked (p : Chained) (set : List ℕ) (r : Removal) : Type 0 where
+  pub wide : stages_of p ≤ length set
+  pub room : card (among set) (stages_of p) + length r.gone.items ≤ stages_of p
+  pub outside : (i : ℕ) → i < length r.gone.items → Outside p (among set) (slice_index r.gone.items i)
 
 -- Those that are gone are some of n stages.
 abbrev pub AllStages : ℕ → Removal → Type 0
@@ -86,25 +99,25 @@ pub record Shrinks (sort : Sort) (moves : List Move) (was after : ℕ → Bool) 
   pub inside : Inside after was
   pub lasts : (part : ℕ → Bool) → Lasting sort moves part → Inside part was → Inside part after
 
--- What becomes of the first n words of a set, and of the removal, with what is kept.
-pub record Removes (sort : Sort) (n : ℕ) (moves : List Move) (was after : List ℕ) (before now : Removal) : Type 0 where
-  pub shrinks : Shrinks sort moves (among was) (among after)
-  pub rest : RestKept n was after
-  pub booked : Booked n after now
+-- What becomes of the words of a set, and of the removal, with what is kept.
+pub record Removes (sort : Sort) (p : Chained) (was after : List ℕ) (before now : Removal) : Type 0 where
+  pub shrinks : Shrinks sort (moves_of p) (among was) (among after)
+  pub rest : RestKept (stages_of p) was after
+  pub booked : Booked p after now
   pub done : now.done ≡ before.done
 
 -- A stage comes to watch another move, or is gone. The others watch what they did, and none is gone but for it.
-pub record Rewatches (sort : Sort) (n : ℕ) (moves : List Move) (stage : ℕ) (was after : List ℕ) (before now : Removal)
-    : Type 0 where
-  pub removes : Removes sort n moves was after before now
+pub record Rewatches (sort : Sort) (p : Chained) (stage : ℕ) (was after : List ℕ) (before now : Removal) : Type 0 where
+  pub removes : Removes sort p was after before now
   pub others : (other : ℕ) → (other ≢ stage) → link_at now.watched other ≡ link_at before.watched other
-  pub here : T (among after stage) → Watched sort moves (among after) (λ k. ⊥) stage (link_at now.watched stage)
+  pub here : T (among after stage)
+      → Watched sort (moves_of p) (among after) (λ k. ⊥) stage (link_at now.watched stage)
   pub gone : (other : ℕ) → Gone before other → Gone now other
   pub left : (other : ℕ) → T (among was other) → T (among after other) ⊎ Gone now other
 
 -- The next stage that is gone is looked at.
 pub record Looks (stage : ℕ) (before now : Removal) : Type 0 where
-  pub outside : (n : ℕ) (set : List ℕ) → Booked n set before → Outside n (among set) stage
+  pub outside : (p : Chained) (set : List ℕ) → Booked p set before → Outside p (among set) stage
   pub done : now.done ≡ before.done + 1
   pub gone : now.gone ≡ before.gone
   pub watched : now.watched ≡ before.watched
@@ -115,9 +128,9 @@ abbrev pub LooksAt : Removal → Removal → Option ℕ → Type 0
 LooksAt before now None = ((stage : ℕ) → Gone before stage → ⊥) × (now ≡ before)
 LooksAt before now (Some stage) = Looks stage before now
 
--- What all removals come to: each of the first n stages that is left has a move into what is left.
-pub record Removed (sort : Sort) (n : ℕ) (moves : List Move) (was after : List ℕ) (r : Removal) : Type 0 where
-  pub shrinks : Shrinks sort moves (among was) (among after)
-  pub rest : RestKept n was after
-  pub booked : Booked n after r
-  pub watching : Watching sort moves (among after) (λ k. ⊥) n r
+-- What all removals come to: each stage that is left has a move into what is left.
+pub record Removed (sort : Sort) (p : Chained) (was after : List ℕ) (r : Removal) : Type 0 where
+  pub shrinks : Shrinks sort (moves_of p) (among was) (among after)
+  pub rest : RestKept (stages_of p) was after
+  pub booked : Booked p after r
+  pub watching : Watching sort p (among after) (λ k. ⊥) r

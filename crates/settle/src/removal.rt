@@ -1,9 +1,9 @@
-// The removal of stages from a set, until each that is left has a move into what is left. Each such stage watches one of
-// its moves; when the stage that this move enters is removed, it looks for the next of its moves that leads into the set.
-ghost use Rattle.std.specs.Prelude.{◌≡◌, ℕ, ◌<◌, ◌≤◌, T, ◌⊎◌, length, if◌then◌else◌, ◌↔◌, IsTrue, Some, false};
+// The removal of stages from a set, until each that is left has a move into what is left. Each such stage watches one
+// of its moves; when the stage that this move enters is removed, it looks for the next of its moves into the set.
+ghost use Rattle.std.specs.Prelude.{◌≡◌, ◌<◌, ◌≤◌, T, ◌⊎◌, length, if◌then◌else◌, false, ◌↔◌, IsTrue};
 ghost use Rattle.program.specs.Graphs.{timed_move};
 ghost use Rattle.tally.specs.Walks.{among};
-ghost use Rattle.program.specs.declared.End.TheVariants.{Leaves, Enters};
+ghost use Rattle.program.specs.declared.End.TheVariants.{Enters};
 ghost use Rattle.settle.specs.Rows.{sort_of};
 
 use crate::endless::Sort;
@@ -14,6 +14,7 @@ use program::{MOST_STAGES, Move};
 
 // `watched` has for each stage the link to the move that it watches. The stages that are gone stand in `gone`; at the
 // first `done` the moves that enter have been looked at.
+// The set stays a parameter: with the set lent to this struct the proof of `watch` didn't close.
 #[derive(Drop)]
 pub struct Removal {
     watched: [Option<u16>; MOST_STAGES],
@@ -31,13 +32,13 @@ fn leads(sort: Sort, m: Move, set: &[u32]) -> bool
 }
 
 impl Removal {
-    ghost use Rattle.settle.specs.Chains.{bound, end_at, link_at};
+    ghost use Rattle.settle.specs.Chains.{end_at, link_at};
     ghost use Rattle.settle.specs.Queues.{Lined};
-    ghost use Rattle.settle.specs.Removals.{NoneAtOrPast, Outside, Booked, AllStages, Watching, Due, Removes, Removed};
-    ghost use Rattle.settle.specs.Removals.{Rewatches, LooksAt, From};
+    ghost use Rattle.settle.specs.Removals.{stages_of, moves_of, From, Outside, Booked, AllStages, Watching, Due};
+    ghost use Rattle.settle.specs.Removals.{Removes, Removed, Rewatches, LooksAt};
 
-    // Lets a stage watch the next move of its chain, from a link on, that leads into the set. Where there is none the stage
-    // is gone.
+    // Lets a stage watch the next move of its chain, from a link on, that leads into the set. Where there is none the
+    // stage is gone.
     fn watch(
         &mut self,
         sort: Sort,
@@ -46,11 +47,10 @@ impl Removal {
         from: Option<u16>,
         set: &mut [u32],
     )
-        requires booked { Booked (length chained.now.lists.stages.now) set.old self.old }
-        requires stage { (stage < length chained.now.lists.stages.now) × (T (among set.old stage)) }
-        requires from { From sort chained.now.lists.moves.now (among set.old) stage from }
-        ensures { Rewatches sort (length chained.now.lists.stages.now) chained.now.lists.moves.now stage set.old set.new
-            self.old self.new }
+        requires booked { Booked chained.now set.old self.old }
+        requires stage { (stage < stages_of chained.now) × (T (among set.old stage)) }
+        requires from { From sort (moves_of chained.now) (among set.old) stage from }
+        ensures { Rewatches sort chained.now stage set.old set.new self.old self.new }
     {
         let mut link = from;
         while let Some(number) = link {
@@ -67,11 +67,9 @@ impl Removal {
 
     // Lets each stage of the set watch a move. Those that cannot are gone.
     fn watch_all(&mut self, sort: Sort, chained: &Chained, set: &mut [u32])
-        requires booked { Booked (length chained.now.lists.stages.now) set.old self.old }
-        ensures removes { Removes sort (length chained.now.lists.stages.now) chained.now.lists.moves.now set.old set.new
-            self.old self.new }
-        ensures watching { Watching sort chained.now.lists.moves.now (among set.new)
-            (Due chained.now.lists.moves.now self.new) (length chained.now.lists.stages.now) self.new }
+        requires booked { Booked chained.now set.old self.old }
+        ensures removes { Removes sort chained.now set.old set.new self.old self.new }
+        ensures watching { Watching sort chained.now (among set.new) (Due chained.now self.new) self.new }
     {
         let firsts = &chained.chains.leaves.first[..chained.lists.stages.len()];
         for (stage, first) in firsts.iter().enumerate() {
@@ -100,15 +98,12 @@ impl Removal {
 
     // Looks at the moves that enter a stage that is gone: a stage that watches one of them watches another, or is gone.
     fn look(&mut self, sort: Sort, chained: &Chained, gone: usize, set: &mut [u32])
-        requires gone { Outside (length chained.now.lists.stages.now) (among set.old) gone }
-        requires booked { Booked (length chained.now.lists.stages.now) set.old self.old }
-        requires watching { Watching sort chained.now.lists.moves.now (among set.old)
-            (λ k. Due chained.now.lists.moves.now self.old k ⊎ (end_at Enters chained.now.lists.moves.now k ≡ gone))
-            (length chained.now.lists.stages.now) self.old }
-        ensures removes { Removes sort (length chained.now.lists.stages.now) chained.now.lists.moves.now set.old set.new
-            self.old self.new }
-        ensures watching { Watching sort chained.now.lists.moves.now (among set.new)
-            (Due chained.now.lists.moves.now self.new) (length chained.now.lists.stages.now) self.new }
+        requires gone { Outside chained.now (among set.old) gone }
+        requires booked { Booked chained.now set.old self.old }
+        requires watching { Watching sort chained.now (among set.old)
+            (λ k. Due chained.now self.old k ⊎ (end_at Enters (moves_of chained.now) k ≡ gone)) self.old }
+        ensures removes { Removes sort chained.now set.old set.new self.old self.new }
+        ensures watching { Watching sort chained.now (among set.new) (Due chained.now self.new) self.new }
     {
         let mut link = chained.chains.enters.first[gone];
         while let Some(number) = link {
@@ -123,8 +118,8 @@ impl Removal {
 
     // Removes stages until each that is left has a move of the sort into what is left.
     pub fn of(sort: Sort, chained: &Chained, set: &mut [u32]) -> Removal
-        requires { length chained.now.lists.stages.now ≤ length set.old }
-        ensures { Removed sort (length chained.now.lists.stages.now) chained.now.lists.moves.now set.old set.new result }
+        requires { stages_of chained.now ≤ length set.old }
+        ensures { Removed sort chained.now set.old set.new result }
     {
         let mut removal = Removal {
             watched: [None; MOST_STAGES],

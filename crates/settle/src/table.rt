@@ -1,5 +1,5 @@
-// For each stage the choice over all walks to a goal, by a queue of the stages whose value changed: as such a stage is taken
-// out, what is said of it goes back over the moves that enter it.
+// For each stage the choice over all walks to a goal, by a queue of the stages whose value changed: as such a stage is
+// taken out, what is said of it goes back over the moves that enter it.
 ghost use Rattle.std.specs.Prelude.{◌≡◌, ◌*◌, ◌<◌, ◌≤◌, ◌⊎◌, length, slice_index_or, OnOk};
 ghost use Rattle.program.specs.Meaning.{no_move};
 ghost use Rattle.tally.specs.Walks.{among, tallied};
@@ -55,8 +55,8 @@ fn leave_last(pass: &[u32], last: &mut [u32]) {
 }
 
 impl ChainedWalks<'_, '_, '_> {
-    // Adds to what the table says of the stage that a move leaves what it says of the stage that the move enters, with the
-    // move's minutes before it. Where that changes something, the stage is put into the queue.
+    // Adds to what the table says of the stage that a move leaves what it says of the stage that the move enters, with
+    // the move's minutes before it. Where that changes something, the stage is put into the queue.
     fn pour_back<T: Tally>(&self, k: usize, table: &mut [T], queue: &mut Queue) -> Result<(), Full>
         requires real { k < length self.now.walks.moves.now }
         requires room { self.now.walks.stages ≤ length table.old }
@@ -130,9 +130,9 @@ impl ChainedWalks<'_, '_, '_> {
         Err(Unsettled::TurnsUsedUp)
     }
 
-    // Puts the goals into the queue, first those that are not to be passed, on which no other depends. Between them it puts
-    // the stages from which no walk is endless within the set to pass, each behind all those that its moves enter: so it
-    // comes out when what is said of those is settled, and need not come again.
+    // Puts the goals into the queue, first those that are not to be passed. Between them it puts the stages from which
+    // no walk is endless within the set to pass, each behind all those that its moves enter: so it comes out when what
+    // is said of those is settled, and need not come again.
     fn line_up(&self, queue: &mut Queue) -> Result<(), Full>
         requires { Lined self.now.walks.stages queue.old }
         ensures lined { Lined self.now.walks.stages queue.new }

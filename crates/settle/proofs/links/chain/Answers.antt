@@ -45,6 +45,7 @@ returns c =
       few_stages = lists.limits.few_stages;
       few_moves = lists.limits.few_moves;
       within = limits_within lists.stages.now lists.moves.now lists.limits;
-      chained = subst (λ k. Chaining c.args.end (length lists.stages.now) lists.moves.now k c.loop-k.first c.loop-k.next)
+      chained = subst
+          (λ k. Chaining c.args.end (length lists.stages.now) lists.moves.now k c.loop-k.first c.loop-k.next)
           all c.loop-k.invariant.0;
     }

@@ -1,28 +1,28 @@
-use Rattle.std.proofs.Common.{◌≡◌, ℕ, ◌⊎◌, Option, List, length, sym, ◌∙◌, subst, inl, inr, ⊎_elim}
+use Rattle.std.proofs.Common.{◌≡◌, ℕ, ◌⊎◌, Option, List, sym, ◌∙◌, subst, inl, inr, ⊎_elim}
 use Rattle.tally.specs.Walks.{among}
 use Rattle.program.specs.declared.End.TheVariants.{Enters}
 use Rattle.settle.specs.declared.removal.Removal.{Removal}
 use Rattle.settle.specs.Chains.{end_at, link_at}
-use Rattle.settle.specs.Removals.{Watched, Due, Removed}
+use Rattle.settle.specs.Removals.{moves_of, Watched, Due, Removed}
 use Rattle.settle.proofs.Removals.{shrinks_more, watching_due, booked_none}
 use Rattle.settle.proofs.removal.Removal.of.Goals as goal
 
 pub watch_all-requires : goal.watch_all-requires
 watch_all-requires c = record {
-  booked = booked_none (length c.args.chained.now.lists.stages.now) c.args.set.now _ c.requires c.new.ensures;
+  booked = booked_none c.args.chained.now c.args.set.now _ c.requires c.new.ensures;
 }
 
 pub look-requires-clause-watching : goal.look-requires-clause-watching
 look-requires-clause-watching c stage l t =
     let sort = c.args.sort in
-    let moves = c.args.chained.now.lists.moves.now in
-    let n = length c.args.chained.now.lists.stages.now in
+    let p = c.args.chained.now in
+    let moves = moves_of p in
     let set = among c.loop-gone.set in
     let r = c.loop-gone.removal in
     let looks = c.in-Some.ensures in
-    let next : ℕ → Type 0 = λ k. Due moves c.next_gone.new.self k ⊎ (end_at Enters moves k ≡ c.in-Some.gone) in
+    let next : ℕ → Type 0 = λ k. Due p c.next_gone.new.self k ⊎ (end_at Enters moves k ≡ c.in-Some.gone) in
     subst (λ (links : List (Option ℕ)). Watched sort moves set next stage (link_at links stage)) (sym looks.watched)
-    (watching_due sort n moves set r (Due moves r) next
+    (watching_due sort p set r (Due p r) next
     (λ k g. ⊎_elim (λ e. inr e) (λ h. inl h) (looks.others _ g)) c.loop-gone.invariant.1 stage l t)
 
 pub loop-gone-preserved : goal.loop-gone-preserved
@@ -31,7 +31,7 @@ loop-gone-preserved c =
     let removes = c.look.ensures.removes in (
       removes.booked,
       c.look.ensures.watching,
-      shrinks_more c.args.sort (length c.args.chained.now.lists.stages.now) c.args.chained.now.lists.moves.now
+      shrinks_more c.args.sort c.args.chained.now
           (among c.watch_all.new.set) (among c.loop-gone.set) (among c.look.new.set) inv.2 removes.shrinks,
       (λ i h. removes.rest i h ∙ inv.3 i h),
     )
@@ -39,17 +39,16 @@ loop-gone-preserved c =
 pub returns : goal.returns
 returns c =
     let sort = c.args.sort in
-    let moves = c.args.chained.now.lists.moves.now in
-    let n = length c.args.chained.now.lists.stages.now in
+    let p = c.args.chained.now in
     let after = c.loop-gone.set in
     let r = c.loop-gone.removal in
     let inv = c.loop-gone.invariant in
     let first = c.watch_all.ensures.removes in
     let none = c.in_default.ensures in
-    subst (λ (q : Removal). Removed sort n moves c.args.set.now after q) (sym none.1) (record {
-      shrinks = shrinks_more sort n moves (among c.args.set.now) (among c.watch_all.new.set) (among after)
+    subst (λ (q : Removal). Removed sort p c.args.set.now after q) (sym none.1) (record {
+      shrinks = shrinks_more sort p (among c.args.set.now) (among c.watch_all.new.set) (among after)
           first.shrinks inv.2;
       rest = λ i h. inv.3 i h ∙ first.rest i h;
       booked = inv.0;
-      watching = watching_due sort n moves (among after) r (Due moves r) (λ k. ⊥) (λ k g. none.0 _ g) inv.1;
+      watching = watching_due sort p (among after) r (Due p r) (λ k. ⊥) (λ k g. none.0 _ g) inv.1;
     })

@@ -21,7 +21,8 @@ returns-in_err-pour_back-clause-partly g c =
     step Enters walks.stages moves c.args.self.now.chained.now.chains.enters c.args.self.now.linked c.args.stage
     c.loop-link.link inv.0 c.in-Some.number c.from-k.result c.in-Some.is c.from-k.ensures in
     partly_more K g.met.T.Tally.lawful walks.stages moves walks.within (among walks.pass.now) c.from-k.result s.real
-    (entry K c.args.table.now) (entry K c.loop-link.table) (entry K c.pour_back.new.table) c.pour_back.ensures.place inv.2
+    (entry K c.args.table.now) (entry K c.loop-link.table) (entry K c.pour_back.new.table)
+    c.pour_back.ensures.place inv.2
 
 pub loop-link-preserved : goal.loop-link-preserved
 loop-link-preserved g c =
