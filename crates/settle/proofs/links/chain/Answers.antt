@@ -37,15 +37,3 @@ loop-k-preserved c =
       length-set next k (link_at first stage) ∙ c.loop-k.invariant.2,
     )
 
-pub returns : goal.returns
-returns c =
-    let lists = c.args.lists.now in
-    let all : c.loop-k.k ≡ length lists.moves.now = omega arith in
-    record {
-      few_stages = lists.limits.few_stages;
-      few_moves = lists.limits.few_moves;
-      within = limits_within lists.stages.now lists.moves.now lists.limits;
-      chained = subst
-          (λ k. Chaining c.args.end (length lists.stages.now) lists.moves.now k c.loop-k.first c.loop-k.next)
-          all c.loop-k.invariant.0;
-    }

@@ -20,8 +20,3 @@ returns-clause-puts c =
       only = is_in_only q.ring q.waiting q.head q.count q.orderly c.args.stage c.requires (omega arith) (omega arith);
     }
 
-pub returns-clause-waits : goal.returns-clause-waits
-returns-clause-waits c =
-    let q = c.args.self.now in
-    let few = q.orderly.few in
-    is_in_last q.ring q.waiting q.head q.count q.orderly c.args.stage c.requires (omega arith) (omega arith)

@@ -10,16 +10,6 @@ use Rattle.settle.proofs.table.ChainedWalks.by_queue.Goals as goal
 pub line_up-requires : goal.line_up-requires
 line_up-requires g c = c.empty-queue.ensures c.args.self.now.walks.stages
 
-pub flow-requires-clause-tended : goal.flow-requires-clause-tended
-flow-requires-clause-tended g c =
-    let K = g.T.Tally.algebra in
-    let walks = c.args.self.now.walks in
-    let table = entry K c.begin_row.new.table in
-    tended_none K g.met.T.Tally.lawful walks.moves.now (among walks.pass.now) (among walks.goals.now) table
-    (Due walks.moves.now c.line_up.new.queue)
-    (λ k l. ap table (sym (zero-add _)) ∙ c.begin_row.ensures.written _ (walks.within k l).1)
-    (λ k l t. c.in_ok-line_up.ensures.wait _ (walks.within k l).1 t)
-
 pub returns-clause-all : goal.returns-clause-all
 returns-clause-all g c =
     let K = g.T.Tally.algebra in
