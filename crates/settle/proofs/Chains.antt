@@ -5,20 +5,20 @@ use Rattle.std.proofs.lemmas.List.{get_or-set_same, get_or-set_other}
 use Rattle.std.proofs.lemmas.Bool.{cases_eq, cases_lt}
 use Rattle.program.specs.declared.Stage.{Stage}
 use Rattle.program.specs.declared.Move.{Move}
-use Rattle.program.specs.Meaning.{Limits, prog}
+use Rattle.program.specs.Meaning.{Limits, prog, most_stages}
 use Rattle.tally.specs.Rounds.{Within}
 use Rattle.program.specs.declared.End.{End}
 use Rattle.program.specs.declared.End.TheVariants.{Leaves, Enters}
 use Rattle.settle.specs.Chains.{bound, end_at, link_at, Reaches, Right, Chaining, Linked}
 use Rattle.settle.specs.declared.links.Links.{Links}
 
-module _ (end : End) (n : ℕ) (moves : List Move) where
+module _ (end : End) (moves : List Move) where
   right_none : (stage : ℕ) → Right end moves stage 0 None
   right_none stage = record { low = omega arith; here = λ j e. absurd (cc); last = λ j h l. absurd (omega arith) }
 
   -- No move is chained yet.
-  pub chaining_none : (first next : List (Option ℕ)) → ((i : ℕ) → i < n → link_at first i ≡ None)
-      → Chaining end n moves 0 first next
+  pub chaining_none : (first next : List (Option ℕ)) → ((i : ℕ) → i < most_stages → link_at first i ≡ None)
+      → Chaining end moves 0 first next
   chaining_none first next e = record {
     firsts = λ stage l. subst (λ x. Right end moves stage 0 x) (sym (e stage l)) (right_none stage);
     nexts = λ j l. absurd (omega arith);
@@ -42,8 +42,8 @@ module _ (end : End) (n : ℕ) (moves : List Move) where
 
   -- Move k, with the stage at its end, is chained before the move that came first.
   pub chaining_more : (k stage : ℕ) (first next : List (Option ℕ)) → stage ≡ end_at end moves k → stage < length first
-      → k < length next → stage < n → Chaining end n moves k first next
-      → Chaining end n moves (k + 1) (set first stage (Some k)) (set next k (link_at first stage))
+      → k < length next → stage < most_stages → Chaining end moves k first next
+      → Chaining end moves (k + 1) (set first stage (Some k)) (set next k (link_at first stage))
   chaining_more k t first next q lf ln l c =
       record {
         firsts = λ stage h.

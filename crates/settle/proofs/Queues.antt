@@ -7,7 +7,7 @@ use Rattle.std.proofs.lemmas.Bool.{cases_eq}
 use Rattle.program.specs.Meaning.{most_stages}
 use Rattle.settle.specs.declared.queue.Queue.{Queue}
 use Rattle.settle.specs.Rings.{behind, Stands, IsIn, Orderly}
-use Rattle.settle.specs.Queues.{Waits, Lined, AllWait, PutsIn}
+use Rattle.settle.specs.Queues.{Waits, AllWait}
 
 nothing_told : (n stage : ℕ) → T (get_or (replicate n false) stage false) → ⊥
 nothing_told zero stage t = t
@@ -147,8 +147,3 @@ module _ (ring : List ℕ) (waiting : List Bool) (head count : ℕ) (ok : Orderl
           (ok.told other (subst (λ b. T b) (get_or-set_other waiting foremost other false false ne) t))))
           (cases_eq other foremost);
     }
-
--- A stage that is put in is among those of the queue.
-pub lined_more : (n stage : ℕ) (was after : Queue) → stage < n → Lined n was → PutsIn stage was after → Lined n after
-lined_more n stage was after low lined puts other w =
-    ⊎_elim (lined other) (λ e. subst (λ x. x < n) (sym e) low) (puts.only other w)

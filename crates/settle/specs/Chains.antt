@@ -35,8 +35,8 @@ pub record Right (end : End) (moves : List Move) (stage k : ℕ) (link : Option 
   pub last : (j : ℕ) → bound link ≤ j → j < k → end_at end moves j ≢ stage
 
 -- What is so of the chains once the moves before k are in them.
-pub record Chaining (end : End) (n : ℕ) (moves : List Move) (k : ℕ) (first next : List (Option ℕ)) : Type 0 where
-  pub firsts : (stage : ℕ) → stage < n → Right end moves stage k (link_at first stage)
+pub record Chaining (end : End) (moves : List Move) (k : ℕ) (first next : List (Option ℕ)) : Type 0 where
+  pub firsts : (stage : ℕ) → stage < most_stages → Right end moves stage k (link_at first stage)
   pub nexts : (j : ℕ) → j < k → Right end moves (end_at end moves j) j (link_at next j)
 
 -- All the moves of a program are in the chains, and the program is within the limits.
@@ -44,7 +44,7 @@ pub record Linked (end : End) (n : ℕ) (moves : List Move) (links : Links) : Ty
   pub few_stages : n ≤ most_stages
   pub few_moves : length moves ≤ most_moves
   pub within : Within n moves
-  pub chained : Chaining end n moves (length moves) links.first links.next
+  pub chained : Chaining end moves (length moves) links.first links.next
 
 pub record ChainsOf (n : ℕ) (moves : List Move) (chains : Chains) : Type 0 where
   pub leaves : Linked Leaves n moves chains.leaves

@@ -1,15 +1,12 @@
 -- A queue of stages: which of them wait in it, and what putting one in and taking one out does.
 use Rattle.std.specs.Prelude.{◌≡◌, ℕ, ◌<◌, Bool, T, ◌⊎◌, Some, None, Option}
+use Rattle.program.specs.Meaning.{most_stages}
 use Rattle.settle.specs.declared.queue.Queue.{Queue}
 use Rattle.settle.specs.Rings.{IsIn}
 
 -- A stage waits in the queue.
 abbrev pub Waits : Queue → ℕ → Type 0
 Waits q = IsIn q.ring q.head q.count
-
--- Those that wait in the queue are some of n stages.
-abbrev pub Lined : ℕ → Queue → Type 0
-Lined n queue = (stage : ℕ) → Waits queue stage → stage < n
 
 -- Each stage of a set, among the first n, waits in the queue.
 abbrev pub AllWait : ℕ → (ℕ → Bool) → Queue → Type 0
@@ -22,6 +19,7 @@ pub record PutsIn (stage : ℕ) (was after : Queue) : Type 0 where
 
 -- A stage is taken out: all the others that waited wait still, and no other.
 pub record Taken (stage : ℕ) (was after : Queue) : Type 0 where
+  pub low : stage < most_stages
   pub waited : Waits was stage
   pub others : (other : ℕ) → Waits was other → (other ≡ stage) ⊎ Waits after other
   pub only : (other : ℕ) → Waits after other → Waits was other

@@ -83,10 +83,6 @@ pub record Booked (p : Chained) (set : List ℕ) (r : Removal) : Type 0 where
   pub room : card (among set) (stages_of p) + length r.gone.items ≤ stages_of p
   pub outside : (i : ℕ) → i < length r.gone.items → Outside p (among set) (slice_index r.gone.items i)
 
--- Those that are gone are some of n stages.
-abbrev pub AllStages : ℕ → Removal → Type 0
-AllStages n r = (i : ℕ) → i < length r.gone.items → slice_index r.gone.items i < n
-
 -- Each stage of a part has a move of the sort into the part.
 abbrev pub Lasting : Sort → List Move → (ℕ → Bool) → Type 0
 Lasting sort moves part = (stage : ℕ) → T (part stage) → (k : ℕ) × Leads sort moves part stage k

@@ -1,5 +1,6 @@
 -- The ring of a queue: which stages stand in it.
-use Rattle.std.specs.Prelude.{◌≡◌, ℕ, ◌+◌, ◌%◌, ◌<◌, ◌≤◌, Bool, false, T, List, slice_index, slice_index_or}
+use Rattle.std.specs.Prelude.{◌≡◌, ℕ, ◌+◌, ◌%◌, ◌<◌, ◌≤◌, Bool, false, T, List, length, slice_index}
+use Rattle.std.specs.Prelude.{slice_index_or}
 use Rattle.program.specs.Meaning.{most_stages}
 
 -- The stage behind so many others.
@@ -22,3 +23,7 @@ pub record Orderly (ring : List ℕ) (waiting : List Bool) (head count : ℕ) : 
   pub few : count ≤ most_stages
   pub stages : (stage : ℕ) → IsIn ring head count stage → stage < most_stages
   pub told : (stage : ℕ) → T (slice_index_or waiting stage false) → IsIn ring head count stage
+
+-- All that stand in a list are stages.
+abbrev pub AllStages : List ℕ → Type 0
+AllStages stages = (i : ℕ) → i < length stages → slice_index stages i < most_stages

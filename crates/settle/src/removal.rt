@@ -4,6 +4,7 @@ ghost use Rattle.std.specs.Prelude.{◌≡◌, ◌<◌, ◌≤◌, T, ◌⊎◌,
 ghost use Rattle.program.specs.Graphs.{timed_move};
 ghost use Rattle.tally.specs.Walks.{among};
 ghost use Rattle.program.specs.declared.End.TheVariants.{Enters};
+ghost use Rattle.settle.specs.Rings.{AllStages};
 ghost use Rattle.settle.specs.Rows.{sort_of};
 
 use crate::endless::Sort;
@@ -21,6 +22,7 @@ pub struct Removal {
     gone: ArrayVec<u16, MOST_STAGES>,
     done: usize,
     ghost order: { done ≤ length gone.items },
+    ghost stages: { AllStages gone.items },
 }
 
 // Whether a move is of the sort and enters the set.
@@ -33,8 +35,7 @@ fn leads(sort: Sort, m: Move, set: &[u32]) -> bool
 
 impl Removal {
     ghost use Rattle.settle.specs.Chains.{end_at, link_at};
-    ghost use Rattle.settle.specs.Queues.{Lined};
-    ghost use Rattle.settle.specs.Removals.{stages_of, moves_of, From, Outside, Booked, AllStages, Watching, Due};
+    ghost use Rattle.settle.specs.Removals.{stages_of, moves_of, From, Outside, Booked, Watching, Due};
     ghost use Rattle.settle.specs.Removals.{Removes, Removed, Rewatches, LooksAt};
 
     // Lets a stage watch the next move of its chain, from a link on, that leads into the set. Where there is none the
@@ -133,13 +134,8 @@ impl Removal {
         removal
     }
 
-    // Puts the stages that are gone, which are some of n, into a queue, in the order in which they went.
-    pub fn put_gone(&self, n: usize, queue: &mut Queue) -> Result<(), Full>
-        requires few { n ≤ MOST_STAGES }
-        requires gone { AllStages n self.now }
-        requires lined { Lined n queue.old }
-        ensures { Lined n queue.new }
-    {
+    // Puts the stages that are gone into a queue, in the order in which they went.
+    pub fn put_gone(&self, queue: &mut Queue) -> Result<(), Full> {
         for stage in self.gone.as_slice() {
             queue.put(usize::from(*stage))?;
         }

@@ -8,7 +8,7 @@ ghost use Rattle.tally.specs.Sweeps.{InPlace, Still, OfAll};
 ghost use Rattle.tally.specs.Tables.{Filled};
 ghost use Rattle.program.specs.declared.End.TheVariants.{Enters};
 ghost use Rattle.settle.specs.Chains.{end_at, Linked};
-ghost use Rattle.settle.specs.Queues.{Waits, Lined, AllWait, PutsIn};
+ghost use Rattle.settle.specs.Queues.{Waits, AllWait, PutsIn};
 ghost use Rattle.settle.specs.Tended.{Tended, Due, StillPartly, Settles};
 
 use crate::endless::Sort;
@@ -85,16 +85,14 @@ impl ChainedWalks<'_, '_, '_> {
 
     // Takes what the table says of a stage back over the moves that enter it.
     fn pull<T: Tally>(&self, stage: usize, table: &mut [T], queue: &mut Queue) -> Result<(), Full>
-        requires stage { stage < self.now.walks.stages }
+        requires stage { stage < MOST_STAGES }
         requires room { self.now.walks.stages ≤ length table.old }
-        requires lined { Lined self.now.walks.stages queue.old }
         requires tended { Tended T.Tally.algebra self.now.walks.moves.now (among self.now.walks.pass.now)
             (entry T.Tally.algebra table.old)
             (λ k. Due self.now.walks.moves.now queue.old k ⊎ (end_at Enters self.now.walks.moves.now k ≡ stage)) }
         ensures partly { StillPartly T.Tally.algebra self.now.walks.stages self.now.walks.moves.now
             (among self.now.walks.pass.now) (entry T.Tally.algebra table.old) (entry T.Tally.algebra table.new) }
         ensures above { KeptFrom T.Tally.algebra self.now.walks.stages table.old table.new }
-        ensures lined { Lined self.now.walks.stages queue.new }
         ensures tended { OnOk result (Tended T.Tally.algebra self.now.walks.moves.now
             (among self.now.walks.pass.now) (entry T.Tally.algebra table.new)
             (Due self.now.walks.moves.now queue.new)) }
@@ -112,7 +110,6 @@ impl ChainedWalks<'_, '_, '_> {
     // Takes stages out of the queue until none waits.
     fn flow<T: Tally>(&self, table: &mut [T], queue: &mut Queue) -> Result<(), Unsettled>
         requires room { self.now.walks.stages ≤ length table.old }
-        requires lined { Lined self.now.walks.stages queue.old }
         requires tended { Tended T.Tally.algebra self.now.walks.moves.now (among self.now.walks.pass.now)
             (entry T.Tally.algebra table.old) (Due self.now.walks.moves.now queue.old) }
         ensures partly { StillPartly T.Tally.algebra self.now.walks.stages self.now.walks.moves.now
@@ -134,9 +131,7 @@ impl ChainedWalks<'_, '_, '_> {
     // no walk is endless within the set to pass, each behind all those that its moves enter: so it comes out when what
     // is said of those is settled, and need not come again.
     fn line_up(&self, queue: &mut Queue) -> Result<(), Full>
-        requires { Lined self.now.walks.stages queue.old }
-        ensures lined { Lined self.now.walks.stages queue.new }
-        ensures wait { OnOk result (AllWait self.now.walks.stages (among self.now.walks.goals.now) queue.new) }
+        ensures { OnOk result (AllWait self.now.walks.stages (among self.now.walks.goals.now) queue.new) }
     {
         let n = self.walks.stages;
         let mut inner = [0; MOST_STAGES];
@@ -145,7 +140,7 @@ impl ChainedWalks<'_, '_, '_> {
         last[..n].copy_from_slice(&self.walks.goals[..n]);
         leave_last(self.walks.pass, &mut last[..n]);
         queue.put_all(n, &last)?;
-        Removal::of(Sort::Any, self.chained, &mut inner).put_gone(n, queue)?;
+        Removal::of(Sort::Any, self.chained, &mut inner).put_gone(queue)?;
         queue.put_all(n, self.walks.goals)
     }
 

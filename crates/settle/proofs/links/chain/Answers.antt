@@ -1,7 +1,7 @@
-use Rattle.std.proofs.Common.{◌≡◌, ℕ, ◌<◌, length, Option, Some, None, replicate, sym, ◌∙◌, subst, arith}
+use Rattle.std.proofs.Common.{ℕ, ◌<◌, length, Option, Some, None, replicate, ◌∙◌, arith}
 use Rattle.std.proofs.lemmas.List.{get_or-replicate, length-replicate, length-set}
 use Rattle.program.specs.Meaning.{most_stages, most_moves}
-use Rattle.settle.specs.Chains.{link_at, Chaining}
+use Rattle.settle.specs.Chains.{link_at}
 use Rattle.settle.proofs.Chains.{chaining_none, chaining_more, limits_within, end_within}
 use Rattle.settle.proofs.links.chain.Goals as goal
 
@@ -9,9 +9,8 @@ pub loop-k-init : goal.loop-k-init
 loop-k-init c =
     let lists = c.args.lists.now in
     let none : Option ℕ = None in (
-      chaining_none c.args.end (length lists.stages.now) lists.moves.now (replicate most_stages none)
-          (replicate most_moves none)
-          (λ i l. get_or-replicate most_stages i none none (let h = lists.limits.few_stages in omega arith)),
+      chaining_none c.args.end lists.moves.now (replicate most_stages none) (replicate most_moves none)
+          (λ i l. get_or-replicate most_stages i none none l),
       length-replicate most_stages none,
       length-replicate most_moves none,
     )
@@ -28,12 +27,10 @@ loop-k-preserved c =
     let next = c.loop-k.next in
     let within = limits_within lists.stages.now moves lists.limits in
     let few = lists.limits.few_moves in
-    let low : stage < length lists.stages.now =
-    subst (λ x. x < length lists.stages.now) (sym at_end)
-    (end_within end (length lists.stages.now) moves within k c.loop-k-test.true) in (
-      chaining_more end (length lists.stages.now) moves k stage first next at_end
-          (let h = lists.limits.few_stages in omega arith) (omega arith) low c.loop-k.invariant.0,
+    let few_stages = lists.limits.few_stages in
+    let low : stage < most_stages =
+    omega (arith, at_end, end_within end (length lists.stages.now) moves within k c.loop-k-test.true) in (
+      chaining_more end moves k stage first next at_end (omega arith) (omega arith) low c.loop-k.invariant.0,
       length-set first stage (Some k) ∙ c.loop-k.invariant.1,
       length-set next k (link_at first stage) ∙ c.loop-k.invariant.2,
     )
-

@@ -7,4 +7,4 @@ pub invariant_of-result : goal.invariant_of-result
 invariant_of-result c = let none : ℕ = 0 in record { orderly = empty_orderly (replicate most_stages none) }
 
 pub returns : goal.returns
-returns c n stage w = absurd (none_in _ 0 stage w)
+returns c stage w = absurd (none_in _ 0 stage w)

@@ -1,5 +1,5 @@
 use Rattle.std.proofs.Common.{arith}
-use Rattle.settle.proofs.Queues.{is_in_still, is_in_last, is_in_only, longer_orderly}
+use Rattle.settle.proofs.Queues.{is_in_still, is_in_only, longer_orderly}
 use Rattle.settle.proofs.queue.Queue.put.Goals as goal
 
 pub invariant_of-self : goal.invariant_of-self
@@ -19,4 +19,3 @@ returns-clause-puts c =
       still = is_in_still q.ring q.waiting q.head q.count q.orderly c.args.stage c.requires (omega arith) (omega arith);
       only = is_in_only q.ring q.waiting q.head q.count q.orderly c.args.stage c.requires (omega arith) (omega arith);
     }
-

@@ -16,6 +16,7 @@ pub returns : goal.returns
 returns c =
     let q = c.args.self.now in
     record {
+      low = foremost_low q.ring q.waiting q.head q.count q.orderly (omega arith) (omega arith);
       waited = is_in_foremost q.ring q.waiting q.head q.count q.orderly (omega arith) (omega arith);
       others = is_in_others q.ring q.waiting q.head q.count q.orderly (omega arith) (omega arith);
       only = is_in_before q.ring q.waiting q.head q.count q.orderly (omega arith) (omega arith);

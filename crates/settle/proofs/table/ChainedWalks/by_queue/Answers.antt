@@ -3,12 +3,8 @@ use Rattle.std.proofs.lemmas.Result.{on_ok_weaker}
 use Rattle.tally.specs.Walks.{among}
 use Rattle.tally.specs.Rounds.{begins, entry}
 use Rattle.tally.proofs.Sweeps.{begins_partly, still_of_all}
-use Rattle.settle.specs.Tended.{Due}
-use Rattle.settle.proofs.Tended.{tended_none, partly_same}
+use Rattle.settle.proofs.Tended.{partly_same}
 use Rattle.settle.proofs.table.ChainedWalks.by_queue.Goals as goal
-
-pub line_up-requires : goal.line_up-requires
-line_up-requires g c = c.empty-queue.ensures c.args.self.now.walks.stages
 
 pub returns-clause-all : goal.returns-clause-all
 returns-clause-all g c =

@@ -9,4 +9,4 @@ returns-in_default-clause-still g c =
     let K = g.T.Tally.algebra in
     let walks = c.args.self.now.walks in
     tended_still K g.met.T.Tally.lawful walks.moves.now (among walks.pass.now) (entry K c.loop-turn.table)
-    (λ k l. ⊎_elim (λ nothing. inl nothing) (λ w. absurd (c.in_default.ensures _ w)) (c.loop-turn.invariant.3 k l))
+    (λ k l. ⊎_elim (λ nothing. inl nothing) (λ w. absurd (c.in_default.ensures _ w)) (c.loop-turn.invariant.2 k l))

@@ -1,6 +1,5 @@
 use Rattle.tally.specs.Walks.{among}
 use Rattle.tally.specs.Rounds.{entry, KeptFrom}
-use Rattle.settle.specs.Queues.{Lined}
 use Rattle.settle.specs.Tended.{Tended, Due, StillPartly}
 use Rattle.settle.proofs.table.ChainedWalks.flow.Given as goal
 
@@ -10,7 +9,6 @@ invariant-loop-turn g l =
     let walks = l.self.walks in
     let moves = walks.moves.now in
     let pass = among walks.pass.now in
-    Lined walks.stages l.queue
-    × StillPartly K walks.stages moves pass (entry K l.initial.table) (entry K l.table)
+    StillPartly K walks.stages moves pass (entry K l.initial.table) (entry K l.table)
     × KeptFrom K walks.stages l.initial.table l.table
     × Tended K moves pass (entry K l.table) (Due moves l.queue)

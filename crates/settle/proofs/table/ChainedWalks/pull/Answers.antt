@@ -1,5 +1,4 @@
-use Rattle.std.proofs.Common.{◌≡◌, ◌<◌, ◌⊎◌, get_or, sym, subst, inl, inr, ⊎_elim}
-use Rattle.program.specs.Meaning.{no_move}
+use Rattle.std.proofs.Common.{◌≡◌, ◌<◌, ◌⊎◌, sym, subst, inl, inr, ⊎_elim}
 use Rattle.tally.specs.Walks.{among}
 use Rattle.tally.specs.Rounds.{entry}
 use Rattle.program.specs.declared.End.TheVariants.{Enters}
@@ -7,7 +6,6 @@ use Rattle.settle.specs.Chains.{bound, end_at, link_at}
 use Rattle.settle.specs.Queues.{Waits}
 use Rattle.settle.specs.Tended.{Due}
 use Rattle.settle.proofs.Chains.{step, chain_more}
-use Rattle.settle.proofs.Queues.{lined_more}
 use Rattle.settle.proofs.Tended.{tended_more, partly_more, above_more}
 use Rattle.settle.proofs.table.ChainedWalks.pull.Goals as goal
 
@@ -22,7 +20,7 @@ returns-in_err-pour_back-clause-partly g c =
     c.loop-link.link inv.0 c.in-Some.number c.from-k.result c.in-Some.is c.from-k.ensures in
     partly_more K g.met.T.Tally.lawful walks.stages moves walks.within (among walks.pass.now) c.from-k.result s.real
     (entry K c.args.table.now) (entry K c.loop-link.table) (entry K c.pour_back.new.table)
-    c.pour_back.ensures.place inv.2
+    c.pour_back.ensures.place inv.1
 
 pub loop-link-preserved : goal.loop-link-preserved
 loop-link-preserved g c =
@@ -46,14 +44,13 @@ loop-link-preserved g c =
     step Enters n moves enters c.args.self.now.linked stage link inv.0 c.in-Some.number k c.in-Some.is
     c.from-k.ensures in (
       s.on,
-      lined_more n (get_or moves k no_move).leaves was after (within k s.real).0 inv.1 poured.puts,
       partly_more K laws n moves within pass k s.real (entry K c.args.table.now) (entry K c.loop-link.table)
-          (entry K c.pour_back.new.table) poured.place inv.2,
+          (entry K c.pour_back.new.table) poured.place inv.1,
       above_more K laws n moves within pass k s.real c.args.table.now c.loop-link.table
-          c.pour_back.new.table poured.place inv.3,
+          c.pour_back.new.table poured.place inv.2,
       tended_more K laws moves pass k (entry K c.loop-link.table) (entry K c.pour_back.new.table)
           (λ j. Due moves was j ⊎ ((end_at Enters moves j ≡ stage) × (j < bound link)))
-          (λ j. Due moves after j ⊎ ((end_at Enters moves j ≡ stage) × (j < bound next))) poured.place inv.4
+          (λ j. Due moves after j ⊎ ((end_at Enters moves j ≡ stage) × (j < bound next))) poured.place inv.3
           (λ j ne. ⊎_elim (λ w. inl (poured.puts.still _ w))
           (λ o. inr (chain_more Enters moves stage k link next s j ne o)))
           (λ j e. ⊎_elim (λ q. inl q) (λ w. inr (inl (subst (Waits after) (sym e) w))) c.in_ok-pour_back.ensures.waits),

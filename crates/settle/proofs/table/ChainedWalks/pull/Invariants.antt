@@ -3,7 +3,6 @@ use Rattle.tally.specs.Walks.{among}
 use Rattle.tally.specs.Rounds.{entry, KeptFrom}
 use Rattle.program.specs.declared.End.TheVariants.{Enters}
 use Rattle.settle.specs.Chains.{bound, end_at, Reaches}
-use Rattle.settle.specs.Queues.{Lined}
 use Rattle.settle.specs.Tended.{Tended, Due, StillPartly}
 use Rattle.settle.proofs.table.ChainedWalks.pull.Given as goal
 
@@ -15,7 +14,6 @@ invariant-loop-link g l =
     let moves = walks.moves.now in
     let pass = among walks.pass.now in
     Reaches Enters moves l.stage l.link
-    × Lined walks.stages l.queue
     × StillPartly K walks.stages moves pass (entry K l.initial.table) (entry K l.table)
     × KeptFrom K walks.stages l.initial.table l.table
     × Tended K moves pass (entry K l.table)
