@@ -1,5 +1,5 @@
 -- What is left, once each stage watches a move into what is left, is the endless part of the set.
-use Rattle.std.proofs.Common.{◌≡◌, ℕ, zero, suc, ◌-◌, ◌<◌, Bool, true, false, T, List, length, get_or, sym, refl, ap}
+use Rattle.std.proofs.Common.{◌≡◌, ℕ, zero, suc, ◌<◌, Bool, true, false, T, List, length, get_or, sym, refl, ap}
 use Rattle.std.proofs.Common.{◌∙◌, subst, ⊎_elim, arith}
 use Rattle.std.proofs.lemmas.List.{get_or-map, length-map, ext_get_or}
 use Rattle.program.specs.declared.Stage.{Stage}
@@ -21,7 +21,7 @@ use Rattle.settle.specs.declared.removal.Removal.{Removal}
 use Rattle.settle.specs.Chains.{end_at}
 use Rattle.program.specs.Graphs.{graph_of}
 use Rattle.settle.specs.Rows.{row, sort_of}
-use Rattle.settle.specs.Removals.{Leads, Watching, Shrinks}
+use Rattle.settle.specs.Removals.{Leads, WatchingBelow, Shrinks}
 
 -- Tests that pass together are one.
 same_bool : (a b : Bool) → (T a → T b) → (T b → T a) → a ≡ b
@@ -94,7 +94,7 @@ module _ (stages : List Stage) (moves : List Move) (within : Within (length stag
       )
 
   module _ (was after : List ℕ) (r : Removal) (shrinks : Shrinks sort moves (among was) (among after))
-      (watching : Watching sort moves (among after) (λ k. ⊥) n r) where
+      (watching : WatchingBelow n sort moves (among after) (λ k. ⊥) r) where
     abbrev left : List Bool
     left = endless p (sort_of sort) (row n was) (size p)
 
@@ -121,13 +121,12 @@ module _ (stages : List Stage) (moves : List Move) (within : Within (length stag
           onward = λ s t.
               let o = table_e (among after) n s t in
               let w = watching s o.0 o.1 in
-              let k = get_or r.watched s 0 - 1 in
-              let low : k < length moves = omega (arith, w.low, w.real) in
+              let k = w.by in
               leads_graph (at (row n after)) s k (record {
-                real = low;
+                real = w.real;
                 leaves = w.leaves;
                 counts = w.counts;
-                enters = table_i (among after) n (end_at Enters moves k) (within k low).1
+                enters = table_i (among after) n (end_at Enters moves k) (within k w.real).1
                     (⊎_elim (λ t. t) (λ f. absurd f) w.enters);
               });
         })
@@ -135,6 +134,7 @@ module _ (stages : List Stage) (moves : List Move) (within : Within (length stag
     pub endless_left : row n after ≡ endless p (sort_of sort) (row n was) n
     endless_left =
         ext_get_or false (row n after) left
-        (length_tab (among after) n 0 ∙ sym sizes ∙ sym (length_endless p (sort_of sort) (row n was) length_was (size p)))
+        (length_tab (among after) n 0 ∙ sym sizes
+        ∙ sym (length_endless p (sort_of sort) (row n was) length_was (size p)))
         (λ s l. same_bool (at (row n after) s) (at left s) (only_left s) (all_left s))
         ∙ ap (endless p (sort_of sort) (row n was)) sizes

@@ -50,9 +50,10 @@ module _ {A : Type 0} (K : Algebra A) (laws : Laws K) (moves : List Move) (pass 
         more true t = under_r K laws (was m.leaves) (K.before m.minutes (was m.enters))
         more false t = absurd t
 
-  -- After a move in place the moves that were due, but for it, are due, and those that enter the stage it leaves, if what
-  -- is said of that stage changed.
-  pub tended_more : (k : ℕ) (was after : ℕ → A) (due next : ℕ → Type 0) → InPlace K pass (get_or moves k no_move) was after
+  -- After a move in place the moves that were due, but for it, are due, and those that enter the stage it leaves, if
+  -- what is said of that stage changed.
+  pub tended_more : (k : ℕ) (was after : ℕ → A) (due next : ℕ → Type 0)
+      → InPlace K pass (get_or moves k no_move) was after
       → Tended K moves pass was due
       → ((j : ℕ) → (j ≡ k → ⊥) → due j → next j)
       → ((j : ℕ) → (get_or moves j no_move).enters ≡ (get_or moves k no_move).leaves
@@ -104,7 +105,8 @@ module _ {A : Type 0} (K : Algebra A) (laws : Laws K) (moves : List Move) (pass 
 
   -- At the beginning the moves that enter a goal are due.
   pub tended_none : (goals : ℕ → Bool) (table : ℕ → A) (due : ℕ → Type 0)
-      → ((k : ℕ) → k < length moves → table (get_or moves k no_move).enters ≡ begins K goals (get_or moves k no_move).enters)
+      → ((k : ℕ) → k < length moves
+      → table (get_or moves k no_move).enters ≡ begins K goals (get_or moves k no_move).enters)
       → ((k : ℕ) → k < length moves → T (goals (get_or moves k no_move).enters) → due k)
       → Tended K moves pass table due
   tended_none goals table due begun waits k l =

@@ -35,6 +35,5 @@ pub fn keep_endless(sort: Sort, chained: &Chained, set: &mut [u32])
         (row (length chained.now.lists.stages.now) set.old) (length chained.now.lists.stages.now) }
     ensures above { RestKept (length chained.now.lists.stages.now) set.old set.new }
 {
-    let lists = chained.lists;
-    let _removal = Removal::of(sort, lists.stages.len(), lists.moves, &chained.chains, set);
+    let _removal = Removal::of(sort, chained, set);
 }

@@ -1,10 +1,10 @@
 use Rattle.std.proofs.Common.{◌≡◌, length}
 use Rattle.program.specs.Meaning.{most_stages, most_moves}
-use Rattle.settle.specs.Chains.{Chained}
+use Rattle.settle.specs.Chains.{Chaining}
 use Rattle.settle.proofs.links.chain.Given as goal
 
 abbrev pub invariant-loop-k : goal.invariant-loop-k
 invariant-loop-k l =
-    Chained l.end l.n l.moves l.k l.first l.next
+    Chaining l.end l.lists.moves.now l.k l.first l.next
     × (length l.first ≡ most_stages)
     × (length l.next ≡ most_moves)

@@ -2,7 +2,7 @@ use Rattle.std.proofs.Common.{ℕ, ◌+◌, T, List, get_or, sym, subst, ⊎_eli
 use Rattle.std.proofs.lemmas.Bool.{cases_eq}
 use Rattle.tally.specs.Walks.{among}
 use Rattle.settle.specs.declared.removal.Removal.{Removal}
-use Rattle.settle.specs.Removals.{Watching, Due, Removes}
+use Rattle.settle.specs.Removals.{moves_of, WatchingBelow, Due, Removes}
 use Rattle.settle.proofs.Removals.{removes_more, watching_more}
 use Rattle.settle.proofs.removal.Removal.watch_all.Goals as goal
 use Rattle.settle.proofs.removal.Removal.watch_all.Goals.{then-set-stage-gt0, else-set-stage-gt0}
@@ -10,13 +10,13 @@ use Rattle.settle.proofs.removal.Removal.watch_all.Goals.{then-set-stage-gt0, el
 pub loop-stage-preserved : goal.loop-stage-preserved
 loop-stage-preserved c =
     let sort = c.args.sort in
-    let moves = c.args.moves.now in
+    let p = c.args.chained.now in
     let stage = c.loop-stage.stage in
     let was = c.loop-stage.set in
     let r = c.loop-stage.self in
     let inv = c.loop-stage.invariant in
-    let So : List ℕ → Removal → Type 0 = λ ws q. Removes sort moves c.args.set.now ws c.args.self.now q
-    × Watching sort moves (among ws) (Due moves q) (stage + 1) q in
+    let So : List ℕ → Removal → Type 0 = λ ws q. Removes sort p c.args.set.now ws c.args.self.now q
+    × WatchingBelow (stage + 1) sort (moves_of p) (among ws) (Due p q) q in
     elim c.if-set-stage-gt0.branch [
       | then-set-stage-gt0 w ↦
           let re = w.watch.ensures in
@@ -24,9 +24,9 @@ loop-stage-preserved c =
           let s = w.watch.new.self in
           subst (λ ws. So ws c.if-set-stage-gt0.self) (sym w.set-is)
           (subst (λ q. So after q) (sym w.self-is) (
-            removes_more sort moves c.args.set.now was after c.args.self.now r s inv.0 re.removes,
-            watching_more sort moves (stage + 1) stage was after r s (Due moves r) (Due moves s) re (λ k ne g. re.gone _ g)
-                (λ k g. g) (λ other l ne t. inv.1 other (omega arith) t),
+            removes_more sort p c.args.set.now was after c.args.self.now r s inv.0 re.removes,
+            watching_more sort p (stage + 1) stage was after r s (Due p r) (Due p s) re
+                (λ k ne g. re.gone _ g) (λ k g. g) (λ other l ne t. inv.1 other (omega arith) t),
           ))
       | else-set-stage-gt0 w ↦
           subst (λ ws. So ws c.if-set-stage-gt0.self) (sym w.set-is)
