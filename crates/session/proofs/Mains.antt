@@ -156,22 +156,22 @@ module _ (p : Prog) (lines : List Line) (was sheet : List ℕ) (names : Names p 
           )
 
 abbrev Right : Prog → Rule → List ℕ → Type 0
-Right p rule words =
-    (k s : ℕ) → k < length (lines_of rule) → Named words k s ↔ Holds (graph p) (rule_at (lines_of rule) k) s
+Right p rule shown =
+    (k s : ℕ) → k < length (lines_of rule) → Named shown k s ↔ Holds (graph p) (rule_at (lines_of rule) k) s
 
-told_right : (caps : Caps) (p : Prog) (c : Call) (a : Answer) (rule : Rule) (words : List ℕ) → Answers caps p c a
-    → Asks c rule → Tells a words → Right p rule words
-told_right caps p (call.Edit e) a rule words h asked told = absurd asked
-told_right caps p (call.Check text) (Edited r) rule words h asked told = absurd told
-told_right caps p (call.Check text) (Checked (Ok v)) rule words h asked told =
+told_right : (caps : Caps) (p : Prog) (c : Call) (a : Answer) (rule : Rule) (shown : List ℕ) → Answers caps p c a
+    → Asks c rule → Tells a shown → Right p rule shown
+told_right caps p (call.Edit e) a rule shown h asked told = absurd asked
+told_right caps p (call.Check text) (Edited r) rule shown h asked told = absurd told
+told_right caps p (call.Check text) (Checked (Ok v)) rule shown h asked told =
     let was = h.0 in
-    let after = h.1 in
+    let left = h.1 in
     let checks = h.3.0 in
     let same : checks.0 ≡ rule = one_reading_lem (vec_items text) checks.0 rule checks.1.reading asked in
     subst (λ ws. Right p rule ws) (sym h.3.1 ∙ told)
-    (subst (λ r. Right p r (take (length p.stages) after.sheet)) same
-    (names_all p (lines_of checks.0) was.sheet after.sheet checks.2.2.names))
-told_right caps p (call.Check text) (Checked (Err e)) rule words h asked told = absurd told
+    (subst (λ r. Right p r (take (length p.stages) left.sheet)) same
+    (names_all p (lines_of checks.0) was.sheet left.sheet checks.2.2.names))
+told_right caps p (call.Check text) (Checked (Err e)) rule shown h asked told = absurd told
 
 module _ (caps : Caps) (start : Prog) (tidy : Tidy start) (calls : List Call) (given : List Answer) (left : Prog)
     (A : AnsweredAll caps start calls given left) where
@@ -205,10 +205,10 @@ module _ (caps : Caps) (start : Prog) (tidy : Tidy start) (calls : List Call) (g
       (quiet_agrees i j l' (λ n a b. quiet n a (omega arith))) (next_agrees j (quiet j l' (omega arith))))
       (cases_eq i (suc j))
 
-  named_right : (i : ℕ) (rule : Rule) (words : List ℕ) → Accepted calls given i rule words
-      → Right (at_call i) rule words
-  named_right i rule words c =
-      told_right caps (at_call i) (call_at calls i) (answer_at given i) rule words (A.answers i c.within) c.asked
+  named_right : (i : ℕ) (rule : Rule) (shown : List ℕ) → Accepted calls given i rule shown
+      → Right (at_call i) rule shown
+  named_right i rule shown c =
+      told_right caps (at_call i) (call_at calls i) (answer_at given i) rule shown (A.answers i c.within) c.asked
       c.told
 
   pub main_theorem : Main caps start calls given left

@@ -2,9 +2,11 @@
 use checker::CheckFault;
 use program::EditFault;
 use program::edit::Edit;
+use std::error::Error;
+use std::fmt;
 
 // An edit, or a check of a rule by its text.
-#[derive(Drop)]
+#[derive(Clone, PartialEq, Eq, Debug, Drop)]
 pub enum Call {
     Edit(Edit),
     Check(Vec<u8>),
@@ -12,20 +14,28 @@ pub enum Call {
 
 // What an accepted check tells: how many lines its rule has, and a word for each stage, in which value 2^k is set for
 // the lines k that hold there.
-#[derive(Drop)]
+#[derive(Clone, PartialEq, Eq, Debug, Drop)]
 pub struct Verdict {
     pub lines: usize,
     pub words: Vec<u32>,
 }
 
-#[derive(Drop)]
+#[derive(Clone, PartialEq, Debug, Drop)]
 pub enum Answer {
     Edited(Result<usize, EditFault>),
     Checked(Result<Verdict, CheckFault>),
 }
 
 // There was no memory for the next answer. The calls that these answer were made, and no other.
-#[derive(Drop)]
+#[derive(PartialEq, Debug, Drop)]
 pub struct OutOfMemory {
     pub answers: Vec<Answer>,
 }
+
+impl fmt::Display for OutOfMemory {
+    fn fmt<W: fmt::Write>(&self, f: &mut fmt::Formatter<W>) -> fmt::Result {
+        write!(f, "out of memory after {} calls", self.answers.len())
+    }
+}
+
+impl Error for OutOfMemory {}

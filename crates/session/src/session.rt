@@ -6,32 +6,18 @@ ghost use Rattle.session.specs.Answers.{Answered, Makes};
 ghost use Rattle.session.specs.Sessions.{Performed};
 
 use crate::calls::{Answer, Call, OutOfMemory, Verdict};
-use checker::check;
-use program::{MOST_STAGES, Program, Store};
+use checker::Desk;
+use program::{Program, Store};
 use std::alloc::{AllocError, Global};
-use tally::{Longest, Reach, Shortest};
 
-// The entries of a table: four a stage.
-const ENTRIES: usize = 4096;
-
-// Checks a text, with memory enough for the largest program.
+// Checks a text, with memory enough for any program.
 fn answer_check<P: Program>(heap: Global, program: &P, text: &[u8]) -> Result<Answer, AllocError>
     ensures { IfOk result (λ a. Answered (P.Program.meaning program.now) text.now a) }
 {
-    let mut sheet = [0; MOST_STAGES];
-    let mut reached = [Reach::Never; ENTRIES];
-    let mut shortest = [Shortest::Never; ENTRIES];
-    let mut longest = [Longest::Never; ENTRIES];
-    match check(
-        program,
-        text,
-        &mut sheet,
-        &mut reached,
-        &mut shortest,
-        &mut longest,
-    ) {
+    let mut desk = Desk::new();
+    match desk.check(program, text) {
         Ok(lines) => {
-            let words = Vec::from_slice(heap, &sheet[0..program.stage_count()])?;
+            let words = Vec::from_slice(heap, &desk.sheet[..program.stage_count()])?;
             Ok(Answer::Checked(Ok(Verdict { lines, words })))
         }
         Err(fault) => Ok(Answer::Checked(Err(fault))),
@@ -71,15 +57,13 @@ pub fn perform<S: Store>(
 {
     let mut answers = Vec::new(heap);
     for call in calls {
-        if answers.reserve(1).is_err() {
+        let Ok(()) = answers.reserve(1) else {
             return Err(OutOfMemory { answers });
-        }
-        match answer(heap, store, call) {
-            Ok(given) => answers.push_reserved(given),
-            Err(_) => {
-                return Err(OutOfMemory { answers });
-            }
-        }
+        };
+        let Ok(given) = answer(heap, store, call) else {
+            return Err(OutOfMemory { answers });
+        };
+        answers.push_reserved(given);
     }
     Ok(answers)
 }

@@ -4,67 +4,83 @@
 
 ghost use Rattle.std.specs.Prelude.{◌≤◌, IfOk};
 
-use checker::check;
-use program::{Program, Store};
+use checker::{CheckFault, check};
+use program::{EditFault, MOST_MOVES, MOST_STAGES, Program, Store};
+use sheet::tables::Tables;
 use std::alloc::{AllocError, Global};
 use stores::tray::Tray;
 use stores::tray::areas::Areas;
-use tally::{Longest, Reach, Shortest};
+use tally::{Longest, Reach, Shortest, Tally};
 
-// Lays stages with these marks, and moves of three numbers each (left, minutes, entered), into a store; false where
-// one is refused.
-fn load<S: Store>(store: &mut S, marks: &[u16], moves: &[u16]) -> bool {
+// The bytes of the areas for the largest program: four a stage, eight a move.
+const STAGE_AREA: usize = 4 * MOST_STAGES;
+
+const MOVE_AREA: usize = 8 * MOST_MOVES;
+
+// The entries of a table: four a stage.
+const ENTRIES: usize = 4 * MOST_STAGES;
+
+// Why there is no number of lines to tell.
+#[derive(Clone, Copy, PartialEq, Debug)]
+enum Refusal {
+    Edit(EditFault),
+    Check(CheckFault),
+    OutOfMemory,
+}
+
+impl From<EditFault> for Refusal {
+    fn from(fault: EditFault) -> Refusal {
+        Refusal::Edit(fault)
+    }
+}
+
+impl From<CheckFault> for Refusal {
+    fn from(fault: CheckFault) -> Refusal {
+        Refusal::Check(fault)
+    }
+}
+
+impl From<AllocError> for Refusal {
+    fn from(_fault: AllocError) -> Refusal {
+        Refusal::OutOfMemory
+    }
+}
+
+// Opens stages with these marks. Marks, and moves below, are bare numbers, as the C interface passes them.
+fn open_stages<S: Store>(store: &mut S, marks: &[u16]) -> Result<(), EditFault> {
     for m in marks {
-        if store.open(*m).is_err() {
-            return false;
-        }
+        store.open(*m)?;
     }
-    for m in moves.chunks_exact(3) {
-        if let [s, d, t] = m {
-            if store.lay(*s as usize, *d as u32, *t as usize).is_err() {
-                return false;
-            }
-        }
-    }
-    true
+    Ok(())
 }
 
-// One check: the number of lines, or 0 where it is refused.
-fn check_once<P: Program>(
-    program: &P,
-    text: &[u8],
-    sheet: &mut [u32],
-    reached: &mut [Reach],
-    shortest: &mut [Shortest],
-    longest: &mut [Longest],
-) -> usize
-    ensures { result ≤ 32 }
-{
-    match check(program, text, sheet, reached, shortest, longest) {
-        Ok(lines) => lines,
-        Err(_) => 0,
+// Lays moves of three numbers each: the stage it leaves, the minutes, and the stage it enters.
+fn lay_moves<S: Store>(store: &mut S, moves: &[u16]) -> Result<(), EditFault> {
+    let (triples, _) = moves.as_chunks::<3>();
+    for &[leaves, minutes, enters] in triples {
+        store.lay(leaves.into(), minutes.into(), enters.into())?;
     }
+    Ok(())
 }
 
-// So many checks, one after the other: what the last one answers.
+// So many checks, one after the other: what the last one answers, and 0 where there is none.
 fn check_times<P: Program>(
     times: u32,
     program: &P,
     text: &[u8],
     sheet: &mut [u32],
-    reached: &mut [Reach],
-    shortest: &mut [Shortest],
-    longest: &mut [Longest],
-) -> usize
-    ensures { result ≤ 32 }
+    tables: &mut Tables,
+) -> Result<usize, CheckFault>
+    ensures { IfOk result (λ n. n ≤ 32) }
 {
     let mut lines = 0;
     for _ in 0..times {
-        lines = check_once(program, text, sheet, reached, shortest, longest);
+        lines = check(program, text, sheet, tables)?;
     }
-    lines
+    Ok(lines)
 }
 
+// Lays the program, and checks the text on it so many times.
 fn run(
     heap: Global,
     marks: &[u16],
@@ -72,35 +88,26 @@ fn run(
     text: &[u8],
     times: u32,
     sheet: &mut [u32],
-) -> Result<usize, AllocError>
+) -> Result<usize, Refusal>
     ensures { IfOk result (λ n. n ≤ 32) }
 {
-    let stages = vec![in heap; 0u8; 4096]?;
-    let areas_moves = vec![in heap; 0u8; 32768]?;
     let mut areas = Areas {
-        stages,
-        moves: areas_moves,
+        stages: vec![in heap; 0; STAGE_AREA]?,
+        moves: vec![in heap; 0; MOVE_AREA]?,
     };
-    let mut reached = vec![in heap; Reach::Never; 4096]?;
-    let mut shortest = vec![in heap; Shortest::Never; 4096]?;
-    let mut longest = vec![in heap; Longest::Never; 4096]?;
     let mut tray = Tray::new(&mut areas);
-    if !load(&mut tray, marks, moves) {
-        return Ok(0);
-    }
-    Ok(check_times(
-        times,
-        &tray,
-        text,
-        sheet,
-        &mut reached,
-        &mut shortest,
-        &mut longest,
-    ))
+    open_stages(&mut tray, marks)?;
+    lay_moves(&mut tray, moves)?;
+    let mut tables = Tables {
+        reached: &mut [Reach::none(); ENTRIES],
+        shortest: &mut [Shortest::none(); ENTRIES],
+        longest: &mut [Longest::none(); ENTRIES],
+    };
+    Ok(check_times(times, &tray, text, sheet, &mut tables)?)
 }
 
 // Checks the text so many times on the program, and leaves the sheet of the last one; the number of lines, or 0 where
-// an edit or the check was refused or memory ran out.
+// an edit or the check was refused or memory ran out: the C interface has no `Result`, so 0 stands for each `Refusal`.
 pub fn burn_check(
     heap: Global,
     marks: &[u16],
@@ -111,8 +118,5 @@ pub fn burn_check(
 ) -> usize
     ensures { result ≤ 32 }
 {
-    match run(heap, marks, moves, text, times, sheet) {
-        Ok(n) => n,
-        Err(_) => 0,
-    }
+    run(heap, marks, moves, text, times, sheet).unwrap_or(0)
 }

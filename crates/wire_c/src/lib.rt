@@ -7,7 +7,7 @@ ghost use Rattle.std.specs.Prelude.{◌≤◌};
 use std::alloc::Global;
 
 // Checks the text so many times on the program, and leaves the sheet of the last one; the number of lines, or 0 where
-// an edit or the check was refused or memory ran out.
+// an edit or the check was refused or memory ran out: C is handed plain numbers, so 0 stands for each of these.
 #[unsafe(no_mangle)]
 pub extern "C" fn burn_check(
     heap: Global,
