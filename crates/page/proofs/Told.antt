@@ -10,6 +10,8 @@ use Rattle.program.specs.Meaning.{Prog, Limits, most_stages}
 use Rattle.program.specs.Graphs.{graph}
 use Rattle.rules.specs.Lines.{rule_at}
 use Rattle.rules.specs.Postorder.{lines_of}
+use Rattle.rules.proofs.Parts.{lines_stand_lem}
+use Rattle.rules.proofs.Postorder.{put_longer}
 use Rattle.sheet.specs.Sheets.{Names}
 use Rattle.checker.specs.declared.faults.CheckFault.{CheckFault}
 use Rattle.checker.specs.declared.faults.CheckFault.TheVariants.{Text, NoStage, DeadEnd, StillCycle, ShortMemory}
@@ -17,7 +19,6 @@ use Rattle.checker.specs.Outcomes.{Memory, Enough}
 use Rattle.checker.specs.Checks.{Check}
 use Rattle.page.specs.Answers.{holds_in, stages_from, stages_of, answer_of, rule_bytes, Lined}
 use Rattle.page.specs.Console.{Rises, Among, Where, Answers, Adds}
-use Rattle.page.proofs.LastLine.{last_rule, some_line}
 
 rises_from : (b c : ℕ) (ns : List ℕ) → b ≤ c → Rises c ns → Rises b ns
 rises_from b c [] l r = tt
@@ -108,10 +109,10 @@ where_named p f was sheet names =
       rising = stages_rise k 0 words;
       within = λ s a. omega (arith, (among_in k 0 words s a).high, length-take n sheet);
       exact = λ s l.
-          let named = names.exact k (omega (arith, some_line f)) s l in
+          let named = names.exact k (omega (arith, put_longer f [])) s l in
           let word : get_or words (s - 0) 0 ≡ get_or sheet s 0 = ap (λ i. get_or words i 0) (omega arith)
           ∙ get_or-take n sheet s 0 l in
-          let same : rule_at (lines_of f) k ≡ f = last_rule f in (
+          let same : rule_at (lines_of f) k ≡ f = (lines_stand_lem f).whole in (
             λ a. subst (λ r. Holds (graph p) r s) same (named.0
                 (subst (λ w. T (holds_in k w)) word (among_in k 0 words s a).holds)),
             λ h.
@@ -146,7 +147,7 @@ told p text was after (Err ShortMemory) h enough = h.2.0.1 enough
 
 pub lined : (p : Prog) (text : List ℕ) (was after : Memory) (r : Result ℕ CheckFault) → Check p text was after r
     → Lined r
-lined p text was after (Ok lines) h = (omega (arith, some_line h.0, h.2.1), omega (arith, h.1.few, h.2.1))
+lined p text was after (Ok lines) h = (omega (arith, put_longer h.0 [], h.2.1), omega (arith, h.1.few, h.2.1))
 lined p text was after (Err fault) h = tt
 
 answer_ok : (r : Result ℕ CheckFault) (words : List ℕ) → is_ok r ≡ is_ok (answer_of r words)
