@@ -1,4 +1,3 @@
 pub mod Printed
-pub mod LastLine
 pub mod Told
 pub mod Series

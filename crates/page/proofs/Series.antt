@@ -1,7 +1,6 @@
 -- Rules are answered one after another.
-use Rattle.std.proofs.Common.{◌≡◌, ℕ, ◌+◌, ◌≤◌, Bool, true, false, List, [], ◌∷◌, ◌++◌, length, is_ok, Ok, Err, sym}
+use Rattle.std.proofs.Common.{◌≡◌, ℕ, ◌+◌, ◌≤◌, Bool, true, false, cond, List, [], ◌∷◌, ◌++◌, length, is_ok, Ok, Err, sym}
 use Rattle.std.proofs.Common.{refl, ap, ◌∙◌, subst, arith}
-use borrow.Author.Tests.{both_ways}
 use Rattle.std.proofs.lemmas.List.{append_assoc, append-nil, length-append, length_push}
 use Rattle.program.specs.Meaning.{Prog}
 use Rattle.program.specs.Edits.{Caps}
@@ -54,19 +53,13 @@ bytes_push n (b ∷ answers) a =
     ∙ ap (λ k. bytes_from (n + 1) answers ++ rule_bytes k a) (omega arith))
     ∙ sym (append_assoc (rule_bytes n b) (bytes_from (n + 1) answers) (rule_bytes (n + length (b ∷ answers)) a))
 
-checked_push : (answers : List Answer) (a : Answer) → is_ok a ≡ true
-    → checked_among (answers ++ a ∷ []) ≡ checked_among answers + 1
-checked_push [] (Ok a) e = refl
-checked_push [] (Err fault) e = absurd (both_ways false refl e)
-checked_push (Ok b ∷ answers) a e = omega (arith, checked_push answers a e)
-checked_push (Err fault ∷ answers) a e = checked_push answers a e
-
-refused_push : (answers : List Answer) (a : Answer) → is_ok a ≡ false
-    → checked_among (answers ++ a ∷ []) ≡ checked_among answers
-refused_push [] (Ok a) e = absurd (both_ways true e refl)
-refused_push [] (Err fault) e = refl
-refused_push (Ok b ∷ answers) a e = omega (arith, refused_push answers a e)
-refused_push (Err fault ∷ answers) a e = refused_push answers a e
+counted_push : (answers : List Answer) (a : Answer)
+    → checked_among (answers ++ a ∷ []) ≡ cond (is_ok a) (checked_among answers + 1) (checked_among answers)
+counted_push [] (Ok a) = refl
+counted_push [] (Err fault) = refl
+counted_push (Ok b ∷ answers) (Ok a) = ap (λ n. 1 + n) (counted_push answers (Ok a)) ∙ omega arith
+counted_push (Ok b ∷ answers) (Err fault) = ap (λ n. 1 + n) (counted_push answers (Err fault))
+counted_push (Err fault ∷ answers) a = counted_push answers a
 
 -- The rules before `rest` are answered.
 pub record Sofar (p : Prog) (rules before rest out : List ℕ) (checked refused : ℕ) : Type 0 where
@@ -79,8 +72,9 @@ pub record Sofar (p : Prog) (rules before rest out : List ℕ) (checked refused 
   pub checked_is : checked ≡ checked_among answers
   pub refused_is : checked + refused ≡ length answers
 
-pub none_answered : (p : Prog) (rules before : List ℕ) → Sofar p rules before rules before 0 0
-none_answered p rules before =
+pub none_answered : (p : Prog) (rules before : List ℕ) {checked refused : ℕ} → checked ≡ 0 → refused ≡ 0
+    → Sofar p rules before rules before checked refused
+none_answered p rules before h k =
     record {
       texts = [];
       answers = [];
@@ -88,8 +82,8 @@ none_answered p rules before =
       whole = tt;
       answered = tt;
       bytes = sym (append-nil before);
-      checked_is = refl;
-      refused_is = refl;
+      checked_is = h;
+      refused_is = omega (arith, h, k);
     }
 
 module _ {p : Prog} {rules before rest out : List ℕ} {checked refused : ℕ}
@@ -105,36 +99,33 @@ module _ {p : Prog} {rules before rest out : List ℕ} {checked refused : ℕ}
         length-append (rules_of s.texts) rest,
       )
 
-  one_more : (text rest' out' : List ℕ) (t : Bool) (checked' refused' : ℕ) → Lacks 10 text
-      → rest ≡ write (rule text) ++ 10 ∷ rest' → (a : Adds p (checked + refused) text out out' t)
-      → checked' ≡ checked_among (s.answers ++ a.answer ∷ []) → checked' + refused' ≡ checked + refused + 1
+  -- One more rule is answered, by its number, and counted.
+  pub one_answered : (text rest' out' : List ℕ) (n : ℕ) (t : Bool) (checked' refused' : ℕ) → Lacks 10 text
+      → rest ≡ write (rule text) ++ 10 ∷ rest' → n ≡ checked + refused → Adds p n text out out' t
+      → checked' ≡ cond t (checked + 1) checked → refused' ≡ cond t refused (refused + 1)
       → Sofar p rules before rest' out' checked' refused'
-  one_more text rest' out' t checked' refused' l e a h k =
+  one_answered text rest' out' n t checked' refused' l e at a h k =
+      let both : checked' + refused' ≡ checked + refused + 1 = one_counted t h k in
       record {
         texts = s.texts ++ text ∷ [];
         answers = s.answers ++ a.answer ∷ [];
         rules_are = s.rules_are ∙ ap (λ bs. rules_of s.texts ++ bs) e ∙ sym (rules_push s.texts text rest');
         whole = texts_push s.texts text s.whole l;
         answered = answered_push p s.texts s.answers text a.answer s.answered a.answers;
-        bytes = a.bytes ∙ ap (λ bs. bs ++ rule_bytes (checked + refused) a.answer) s.bytes
-            ∙ append_assoc before (bytes_from 0 s.answers) (rule_bytes (checked + refused) a.answer)
-            ∙ ap (λ n. before ++ (bytes_from 0 s.answers ++ rule_bytes n a.answer)) (omega (arith, s.refused_is))
+        bytes = a.bytes ∙ ap (λ bs. bs ++ rule_bytes n a.answer) s.bytes
+            ∙ append_assoc before (bytes_from 0 s.answers) (rule_bytes n a.answer)
+            ∙ ap (λ i. before ++ (bytes_from 0 s.answers ++ rule_bytes i a.answer)) (omega (arith, at, s.refused_is))
             ∙ ap (λ bs. before ++ bs) (sym (bytes_push 0 s.answers a.answer));
-        checked_is = h;
-        refused_is = omega (arith, s.refused_is, length_push s.answers a.answer);
+        checked_is = h ∙ ap (λ i. cond t (i + 1) i) s.checked_is
+            ∙ ap (λ b. cond b (checked_among s.answers + 1) (checked_among s.answers)) a.checked_is
+            ∙ sym (counted_push s.answers a.answer);
+        refused_is = omega (arith, both, s.refused_is, length_push s.answers a.answer);
       }
-
-  pub one_checked : (text rest' out' : List ℕ) (t : Bool) → Lacks 10 text → rest ≡ write (rule text) ++ 10 ∷ rest'
-      → Adds p (checked + refused) text out out' t → t ≡ true → Sofar p rules before rest' out' (checked + 1) refused
-  one_checked text rest' out' t l e a is =
-      one_more text rest' out' t (checked + 1) refused l e a
-      (omega (arith, s.checked_is, checked_push s.answers a.answer (sym a.checked_is ∙ is))) (omega arith)
-
-  pub one_refused : (text rest' out' : List ℕ) (t : Bool) → Lacks 10 text → rest ≡ write (rule text) ++ 10 ∷ rest'
-      → Adds p (checked + refused) text out out' t → t ≡ false → Sofar p rules before rest' out' checked (refused + 1)
-  one_refused text rest' out' t l e a is =
-      one_more text rest' out' t checked (refused + 1) l e a
-      (s.checked_is ∙ sym (refused_push s.answers a.answer (sym a.checked_is ∙ is))) (omega arith)
+    where
+      one_counted : (t : Bool) → checked' ≡ cond t (checked + 1) checked → refused' ≡ cond t refused (refused + 1)
+          → checked' + refused' ≡ checked + refused + 1
+      one_counted true h k = omega (arith, h, k)
+      one_counted false h k = omega (arith, h, k)
 
   pub all_answered : NoLine Rules rest → AddsAll p rules before out checked refused
   all_answered none =

@@ -17,10 +17,6 @@ listed [] = []
 listed (n ∷ []) = decimal n
 listed (n ∷ m ∷ ns) = decimal n ++ 44 ∷ listed (m ∷ ns)
 
--- What stands before a number of a list: a comma, where the list has begun.
-abbrev pub separator : Bool → List ℕ
-separator begun = cond begun (44 ∷ []) []
-
 -- Line k holds at the stage of the word.
 abbrev pub holds_in : ℕ → ℕ → Bool
 holds_in k word = (word / 2 ^ k) % 2 == 1

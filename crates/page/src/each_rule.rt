@@ -1,101 +1,85 @@
 // The rules of a page: each is checked on the program and answered.
-ghost use Rattle.std.specs.Prelude.{IfOk};
+ghost use Rattle.std.specs.Prelude.{◌≡◌, ◌+◌, ◌^◌, ◌<◌, min, if◌then◌else◌, is_ok, IfOk, string_bytes};
 ghost use Rattle.page.specs.Console.{NextRule, Adds, AddsAll};
 
 use crate::answers::write_rule;
-use checker::check;
+use checker::{CheckFault, Desk};
 use layout::line::PageLine;
 use layout::loading::{Part, next_line};
-use program::{MOST_STAGES, Program};
+use program::Program;
 use std::alloc::AllocError;
-use tally::{Longest, Reach, Shortest};
-
-// The entries of a table: four a stage.
-const ENTRIES: usize = 4096;
-
-// The memory that checks work in: a sheet, and a table for each tally.
-#[derive(Drop)]
-struct Desk {
-    sheet: [u32; MOST_STAGES],
-    reached: [Reach; ENTRIES],
-    shortest: [Shortest; ENTRIES],
-    longest: [Longest; ENTRIES],
-}
-
-impl Desk {
-    fn new() -> Desk {
-        Desk {
-            sheet: [0; MOST_STAGES],
-            reached: [Reach::Never; ENTRIES],
-            shortest: [Shortest::Never; ENTRIES],
-            longest: [Longest::Never; ENTRIES],
-        }
-    }
-}
 
 // How many rules were checked, and how many refused.
-#[derive(Clone, Copy, PartialEq, Debug)]
+#[derive(Clone, Copy, PartialEq, Eq, Debug, Default)]
 pub struct Counts {
     pub checked: usize,
     pub refused: usize,
+}
+
+impl Counts {
+    // How many rules were answered.
+    pub fn total(self) -> usize
+        ensures { result ≡ min (self.checked + self.refused) usize.MAX }
+    {
+        self.checked.saturating_add(self.refused)
+    }
+
+    // Counts one more answer.
+    fn count(&mut self, answer: Result<usize, CheckFault>)
+        requires { self.old.checked + self.old.refused + 1 < 2 ^ 64 }
+        ensures checked { self.new.checked
+            ≡ (if is_ok answer then self.old.checked + 1 else self.old.checked) }
+        ensures refused { self.new.refused
+            ≡ (if is_ok answer then self.old.refused else self.old.refused + 1) }
+    {
+        match answer {
+            Ok(_) => self.checked += 1,
+            Err(_) => self.refused += 1,
+        }
+    }
 }
 
 // The text of the rule that the bytes begin with, and what follows it.
 fn next_rule(bytes: &[u8]) -> Option<(&[u8], &[u8])>
     ensures { NextRule bytes.now result }
 {
-    let (line, rest) = next_line(bytes, Part::Rules)?;
-    match line {
-        PageLine::Rule { text } => Some((text, rest)),
+    match next_line(bytes, Part::Rules)? {
+        (PageLine::Rule { text }, rest) => Some((text, rest)),
         _ => None,
     }
 }
 
-// Checks a rule and appends its answer, and says whether the check was made.
+// Checks a rule and appends its answer, which is given back too.
 fn answer_rule<P: Program>(
     program: &P,
     number: usize,
     text: &[u8],
     desk: &mut Desk,
-    out: &mut Vec<u8>,
-) -> Result<bool, AllocError>
-    ensures { IfOk result (λ checked. Adds (P.Program.meaning program.now) number text.now
-        out.old.items out.new.items checked) }
+    out: &mut String,
+) -> Result<Result<usize, CheckFault>, AllocError>
+    ensures { IfOk result (λ answer. Adds (P.Program.meaning program.now) number text.now
+        (string_bytes out.old) (string_bytes out.new) (is_ok answer)) }
 {
-    let answer = check(
-        program,
-        text,
-        &mut desk.sheet,
-        &mut desk.reached,
-        &mut desk.shortest,
-        &mut desk.longest,
-    );
-    write_rule(out, number, answer, &desk.sheet[0..program.stage_count()])?;
-    Ok(answer.is_ok())
+    let answer = desk.check(program, text);
+    write_rule(out, number, answer, &desk.sheet[..program.stage_count()])?;
+    Ok(answer)
 }
 
 // Checks the rules one after another and appends their answers.
 pub(crate) fn answer_rules<P: Program>(
     program: &P,
     rules: &[u8],
-    out: &mut Vec<u8>,
+    out: &mut String,
 ) -> Result<Counts, AllocError>
     ensures { IfOk result (λ counts. AddsAll (P.Program.meaning program.now) rules.now
-        out.old.items out.new.items counts.checked counts.refused) }
+        (string_bytes out.old) (string_bytes out.new) counts.checked counts.refused) }
 {
     let mut desk = Desk::new();
-    let mut counts = Counts {
-        checked: 0,
-        refused: 0,
-    };
+    let mut counts = Counts::default();
     let mut rest = rules;
     while let Some((text, after)) = next_rule(rest) {
-        let number = counts.checked + counts.refused;
-        if answer_rule(program, number, text, &mut desk, out)? {
-            counts.checked += 1;
-        } else {
-            counts.refused += 1;
-        }
+        let answer = answer_rule(program, counts.total(), text, &mut desk, out)?;
+        counts.count(answer);
         rest = after;
     }
     Ok(counts)

@@ -32,5 +32,8 @@ pub fn answer(heap: Global, page: &[u8], out: &mut Vec<u8>) -> Result<Summary, A
     let moves = vec![in heap; 0u8; MOVE_AREA]?;
     let mut areas = Areas { stages, moves };
     let mut tray = Tray::new(&mut areas);
-    answer_over(&mut tray, page, out)
+    let mut answers = String::new(heap);
+    let summary = answer_over(&mut tray, page, &mut answers)?;
+    out.extend_from_slice(answers.as_bytes())?;
+    Ok(summary)
 }

@@ -1,5 +1,5 @@
 // A page is answered over an empty store: it is loaded, and then its rules are checked one after another.
-ghost use Rattle.std.specs.Prelude.{IfOk};
+ghost use Rattle.std.specs.Prelude.{IfOk, string_bytes};
 ghost use Rattle.page.specs.Whole.{AddsPage};
 
 use crate::answers::write_refused;
@@ -29,10 +29,10 @@ pub enum Summary {
 pub(crate) fn answer_over<S: Store>(
     store: &mut S,
     page: &[u8],
-    out: &mut Vec<u8>,
+    out: &mut String,
 ) -> Result<Summary, AllocError>
     ensures { IfOk result (λ summary. AddsPage (S.room store.old) (S.Program.meaning store.old)
-        page.now out.old.items out.new.items summary) }
+        page.now (string_bytes out.old) (string_bytes out.new) summary) }
 {
     match load(store, page) {
         Ok(rules) => {

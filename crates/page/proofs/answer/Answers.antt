@@ -1,16 +1,9 @@
-use Rattle.std.proofs.Common.{◌≡◌, IfOk, vec_len, ap, ◌∙◌, subst}
-use Rattle.std.proofs.lemmas.Result.{err_from_is_err_and}
-use Rattle.program.specs.Meaning.{Prog, empty, most_stages, most_moves}
-use Rattle.program.specs.Edits.{Caps}
+use Rattle.std.proofs.Common.{◌≡◌, ◌++◌, vec_len, ap, ◌∙◌}
+use Rattle.program.specs.Meaning.{most_stages, most_moves}
 use Rattle.stores.specs.Trays.{room_for_stages, room_for_moves}
 use Rattle.stores.specs.InTray.{tray_room}
-use Rattle.page.specs.Whole.{full_room, AddsPage}
+use Rattle.page.specs.Whole.{full_room}
 use Rattle.page.proofs.answer.Goals as goal
-
-pub returns-in_err-moves : goal.returns-in_err-moves
-returns-in_err-moves c =
-    let p = err_from_is_err_and c.from_residual-in_err-moves.result
-    c.from_residual-in_err-moves.ensures.1 in rw p.1 tt
 
 pub returns : goal.returns
 returns c =
@@ -22,7 +15,11 @@ returns c =
     let room : tray_room tray ≡ full_room =
     ap (λ n. record { stages = n; moves = room_for_moves (vec_len tray.areas.now.moves) }) stages
     ∙ ap (λ n. record { stages = most_stages; moves = n }) moves in
-    let adds : Caps → Prog → Type 0 = λ caps start.
-    IfOk c.answer_over.result
-    (λ summary. AddsPage caps start c.args.page.now c.args.out.now.items c.answer_over.new.out.items summary) in
-    subst (λ caps. adds caps empty) room (subst (adds (tray_room tray)) c.new-tray.ensures.holds c.answer_over.ensures)
+    let said = c.in_ok-summary.ensures in
+    let text = said.adds ∙ ap (λ b. b ++ said.bytes) c.new-answers.ensures.bytes in
+    record {
+      bytes = said.bytes;
+      adds = c.in_ok-extend_from_slice.ensures.items
+          ∙ ap (λ b. c.args.out.now.items ++ b) (c.as_bytes.ensures.value ∙ text);
+      answers = rw room at rw c.new-tray.ensures.holds at said.answers;
+    }
