@@ -1,9 +1,9 @@
 -- What a removal keeps when a stage comes to watch another move, and when it is gone.
-use Rattle.std.proofs.Common.{◌≡◌, ℕ, ◌+◌, ◌<◌, ◌≤◌, Bool, true, false, if◌then◌else◌, T, ltb, ◌⊎◌, Option, Some, None}
+use Rattle.std.proofs.Common.{◌≡◌, ℕ, ◌+◌, ◌<◌, ◌≤◌, Bool, false, T, ltb, ◌⊎◌, Option, Some, None}
 use Rattle.std.proofs.Common.{List, [], ◌∷◌, ◌++◌, length, get_or, set, sym, refl, ap, ◌∙◌, subst, inl, inr, ⊎_elim}
 use Rattle.std.proofs.Common.{arith, length-append}
 use Rattle.std.proofs.lemmas.List.{get_or-set_same, get_or-set_other, get_or_push, get_or_append_left, length-set}
-use Rattle.std.proofs.lemmas.Bool.{cases_eq, cases_lt, false≢true}
+use Rattle.std.proofs.lemmas.Bool.{cases_eq, cases_lt}
 use Rattle.program.specs.declared.Move.{Move}
 use Rattle.tally.specs.Walks.{among}
 use Rattle.tctl.proofs.Basics.{card, card_lt, card_top}
@@ -23,12 +23,6 @@ room_left p set r booked stage l t =
     let some = card_lt (λ x. false) (among set) (λ x f. absurd f) stage (λ f. f) t (stages_of p) l in
     let room = booked.room in
     omega arith
-
--- Both of two tests hold.
-pub both_hold : (a b : Bool) → (if a then b else false) ≡ true → T a × T b
-both_hold true true e = (tt, tt)
-both_hold true false e = absurd (false≢true e)
-both_hold false b e = absurd (false≢true e)
 
 -- At the beginning no stage is gone.
 pub booked_none : (p : Chained) (set : List ℕ) (r : Removal) → stages_of p ≤ length set → r.gone.items ≡ []

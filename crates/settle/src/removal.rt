@@ -1,6 +1,6 @@
 // The removal of stages from a set, until each that is left has a move into what is left. Each such stage watches one
 // of its moves; when the stage that this move enters is removed, it looks for the next of its moves into the set.
-ghost use Rattle.std.specs.Prelude.{◌≡◌, ◌<◌, ◌≤◌, T, ◌⊎◌, length, if◌then◌else◌, false, ◌↔◌, IsTrue};
+ghost use Rattle.std.specs.Prelude.{◌≡◌, ◌<◌, ◌≤◌, T, ◌⊎◌, length, ◌↔◌, IsTrue};
 ghost use Rattle.program.specs.Graphs.{timed_move};
 ghost use Rattle.tally.specs.Walks.{among};
 ghost use Rattle.program.specs.declared.End.TheVariants.{Enters};
@@ -28,7 +28,7 @@ pub struct Removal {
 // Whether a move is of the sort and enters the set.
 fn leads(sort: Sort, m: Move, set: &[u32]) -> bool
     requires { m.enters < length set.now }
-    ensures { result ≡ (if sort_of sort (timed_move m) then among set.now m.enters else false) }
+    ensures { IsTrue result ↔ (T (sort_of sort (timed_move m)) × T (among set.now m.enters)) }
 {
     sort.counts(m) && set[usize::from(m.enters)] > 0
 }

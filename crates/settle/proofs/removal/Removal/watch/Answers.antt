@@ -3,7 +3,7 @@ use Rattle.tally.specs.Walks.{among}
 use Rattle.program.specs.declared.End.TheVariants.{Leaves}
 use Rattle.settle.specs.Chains.{bound}
 use Rattle.settle.proofs.Chains.{step}
-use Rattle.settle.proofs.Removals.{room_left, both_hold, rewatched, removed}
+use Rattle.settle.proofs.Removals.{room_left, rewatched, removed}
 use Rattle.settle.specs.Removals.{moves_of, NoneAtOrPast}
 use Rattle.settle.proofs.removal.Removal.watch.Goals as goal
 
@@ -15,7 +15,7 @@ returns-then-leads c =
     let s =
     step Leaves _ moves p.chains.leaves p.linked.leaves c.args.stage c.loop-link.link inv.from.reaches
     c.in-Some.number c.from-k.result c.in-Some.is c.from-k.ensures in
-    let into = both_hold _ _ (sym c.leads.ensures ∙ c.if-leads.true) in
+    let into = c.leads.ensures.0 c.if-leads.true in
     let None_past : ℕ → Type 0 = NoneAtOrPast c.args.sort moves (among c.args.set.now) c.args.stage in
     let none : None_past (c.from-k.result + 1) = subst (λ link. None_past (bound link)) s.is inv.from.none in
     rewatched c.args.sort p c.args.stage c.args.set.now c.args.self.now _ c.requires.booked
