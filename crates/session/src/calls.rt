@@ -34,7 +34,7 @@ pub struct OutOfMemory {
 
 impl fmt::Display for OutOfMemory {
     fn fmt<W: fmt::Write>(&self, f: &mut fmt::Formatter<W>) -> fmt::Result {
-        write!(f, "out of memory after {} calls", self.answers.len())
+        write!(f, "out of memory; calls answered: {}", self.answers.len())
     }
 }
 
