@@ -16,7 +16,7 @@ use Rattle.tally.proofs.Laws.{reach_laws, minutes_laws}
 use Rattle.settle.specs.declared.links.Chained.{Chained}
 use Rattle.settle.specs.Rows.{row}
 use Rattle.sheet.specs.declared.stage_set.StageSet.{StageSet}
-use Rattle.sheet.specs.Sets.{stage_count, timed, has, UntilSet}
+use Rattle.sheet.specs.Sets.{stage_count, has}
 use Rattle.sheet.specs.Told.{reaches, short_to, long_from}
 use Rattle.sheet.proofs.Sets.{table_same, row_at}
 use Rattle.sheet.proofs.Homs.{told_reach, told_short, told_long}

@@ -14,7 +14,6 @@ use Rattle.tctl.specs.Graph.{Graph, Stage, size}
 use Rattle.tctl.specs.Checker as th
 use Rattle.tctl.specs.Checker.{Entry, none, sum, shortest, longest, table, at, some?, most?, least?}
 use Rattle.tctl.proofs.Basics.{table_at}
-
 use Rattle.sheet.specs.Told.{reaches, short_to, long_from}
 
 -- h carries the theory's tally k over to the tally K.

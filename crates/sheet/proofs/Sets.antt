@@ -1,9 +1,8 @@
 -- Sets as lists and as rows of words.
-use Rattle.std.proofs.Common.{◌≡◌, ℕ, zero, suc, ◌+◌, ◌<◌, ◌≤◌, Bool, true, false, eqb, ltb, List, ◌∷◌, map, length}
-use Rattle.std.proofs.Common.{get_or, set, sym, refl, ap, ◌∙◌, subst, ⊎_elim, arith}
-use Rattle.std.proofs.lemmas.List.{get_or-set_same, get_or-set_other, get_or-map, length-map}
-use Rattle.std.proofs.lemmas.Bool.{cases_eq, eq-eqb, ne_eqb}
-use Rattle.tctl.specs.Graph.{Move, Graph}
+use Rattle.std.proofs.Common.{◌≡◌, ℕ, zero, suc, ◌+◌, ◌<◌, ◌≤◌, Bool, true, false, eqb, List, ◌∷◌, map, length}
+use Rattle.std.proofs.Common.{get_or, sym, refl, ap, ◌∙◌, subst, arith}
+use Rattle.std.proofs.lemmas.List.{get_or-map, length-map}
+use Rattle.tctl.specs.Graph.{Move}
 use Rattle.program.specs.declared.Stage.{Stage}
 use Rattle.program.specs.declared.Move as program
 use Rattle.program.specs.Meaning.{no_stage, no_move}
@@ -14,7 +13,6 @@ use Rattle.tally.specs.Rounds.{Within}
 use Rattle.tctl.specs.Runs.{Sound}
 use Rattle.tctl.specs.Checker.{table, tab_from, at, into, any_move, ◌and◌, ◌or◌}
 use Rattle.tctl.proofs.Basics.{table_at}
-
 use Rattle.sheet.specs.declared.tables.Tables.{Tables}
 use Rattle.sheet.specs.Tables.{AreSpent, SameSlices}
 

@@ -1,12 +1,11 @@
-use Rattle.std.proofs.Common.{◌≡◌, ℕ, ◌^◌, ◌<◌, Bool, T, length, get_or, sym, ap, ◌∙◌, subst, ⊎_elim, arith, rules}
+use Rattle.std.proofs.Common.{◌≡◌, ℕ, ◌^◌, ◌<◌, Bool, T, length, get_or, sym, ap, ◌∙◌, subst, ⊎_elim, arith}
 use Rattle.std.proofs.lemmas.Bool.{cases_eq}
 use Rattle.std.proofs.lemmas.Grind.{common_steps}
 use Rattle.tctl.specs.Checker.{at, where_holds}
 use Rattle.tctl.proofs.Basics.{table_at}
 use Rattle.tctl.proofs.Checked.{right}
 use Rattle.rules.specs.declared.line.Line.TheVariants.{One}
-use Rattle.rules.specs.Lines.{most_lines, rule_at}
-use Rattle.rules.proofs.Ruled.{formed_more}
+use Rattle.rules.specs.Lines.{rule_at}
 use Rattle.sheet.specs.Sets.{stage_count, timed}
 use Rattle.sheet.specs.Sheets.{bit, column, line_list}
 use Rattle.sheet.proofs.Sets.{table_stages, spent_more, same_more}

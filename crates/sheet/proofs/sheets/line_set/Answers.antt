@@ -34,7 +34,7 @@ returns-in-Not-clause-is c =
     let n = stage_count chained in
     let sheet = c.args.sheet.now in
     row_stages chained.lists.stages.now c.of-in-Not.result.words (λ (s : ℕ). open? p s and non (at (column n sheet c.in-Not.i) s))
-    (λ s h. 
+    (λ s h.
     let e : has c.of-in-Not.result s ≡ (open? p s and non (bit c.in-Not.i (get_or sheet s 0))) =
     (let e = c.of-in-Not.ensures s h in search rules) in
     e ∙ ap (λ x. open? p s and non x) (column_at n sheet c.in-Not.i s h))
@@ -47,7 +47,7 @@ returns-in-And-clause-is c =
     let n = stage_count chained in
     let sheet = c.args.sheet.now in
     row_stages chained.lists.stages.now c.of-in-And.result.words (λ (s : ℕ). at (column n sheet c.in-And.i) s and at (column n sheet c.in-And.j) s)
-    (λ s h. 
+    (λ s h.
     let e : has c.of-in-And.result s ≡ (bit c.in-And.i (get_or sheet s 0) and bit c.in-And.j (get_or sheet s 0)) =
     (let e = c.of-in-And.ensures s h in search rules) in
     e ∙ ap (λ x. x and bit c.in-And.j (get_or sheet s 0)) (column_at n sheet c.in-And.i s h)
@@ -61,7 +61,7 @@ returns-in-Or-clause-is c =
     let n = stage_count chained in
     let sheet = c.args.sheet.now in
     row_stages chained.lists.stages.now c.of-in-Or.result.words (λ (s : ℕ). at (column n sheet c.in-Or.i) s or at (column n sheet c.in-Or.j) s)
-    (λ s h. 
+    (λ s h.
     let e : has c.of-in-Or.result s ≡ (bit c.in-Or.i (get_or sheet s 0) or bit c.in-Or.j (get_or sheet s 0)) =
     (let e = c.of-in-Or.ensures s h in search rules) in
     e ∙ ap (λ x. x or bit c.in-Or.j (get_or sheet s 0)) (column_at n sheet c.in-Or.i s h)
