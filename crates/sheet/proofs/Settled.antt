@@ -1,5 +1,5 @@
--- When as many rounds as there are stages say all: for reach and shortest always, and for longest where no walk can go on
--- for ever.
+-- When as many rounds as there are stages say all: for reach and shortest always, and for longest where no walk can go
+-- on for ever.
 use Rattle.std.proofs.Common.{◌≡◌, ℕ, ◌<◌, Bool, false, T, List, [], ◌∷◌, length, sym, refl, ap, ◌∙◌, subst}
 use Rattle.std.proofs.lemmas.List.{length-map}
 use Rattle.tctl.specs.Graph as timed
@@ -61,7 +61,8 @@ module _ (chained : Chained) where
       subst (λ (x : Reach). T x.0) (sym e) tt
 
   -- The moves leave stages of the graph.
-  from : (k : ℕ) → k < timed.count (timed chained) → (timed.move_at (timed chained) k).leaves < timed.size (timed chained)
+  from : (k : ℕ) → k < timed.count (timed chained)
+      → (timed.move_at (timed chained) k).leaves < timed.size (timed chained)
   from k h =
       let l : k < length moves = subst (λ n. k < n) (length-map moves timed_move) h in
       subst (λ i. (timed.move_at (timed chained) k).leaves < i)

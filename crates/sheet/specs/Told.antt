@@ -1,5 +1,6 @@
 -- What a tally tells of a number of minutes, and a table before and after its use.
-use Rattle.std.specs.Prelude.{◌≡◌, ℕ, ◌*◌, ◌<◌, ◌≤◌, Bool, true, false, List, Option, Some, None, nat_le, slice_index_or}
+use Rattle.std.specs.Prelude.{◌≡◌, ℕ, ◌*◌, ◌<◌, ◌≤◌, Bool, true, false, List, Option, Some, None}
+use Rattle.std.specs.Prelude.{nat_le, slice_index_or}
 use Rattle.tally.specs.declared.Reach.{Reach}
 use Rattle.tally.specs.declared.Minutes.{Minutes}
 

@@ -1,5 +1,5 @@
-// The four untils, each from the sets of the stages where its parts hold. A stage may be passed if it is silent, or if the
-// left part holds there.
+// The four untils, each from the sets of the stages where its parts hold. A stage may be passed if it is silent, or if
+// the left part holds there.
 ghost use Rattle.std.specs.Prelude.{◌-◌, ◌*◌, ◌≤◌, length, nat_le};
 ghost use Rattle.rules.specs.Lines.{largest_number};
 ghost use Rattle.tally.specs.Algebras.{reach_algebra, shortest_algebra, longest_algebra};
