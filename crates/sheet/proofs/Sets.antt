@@ -5,7 +5,7 @@ use Rattle.std.proofs.lemmas.List.{get_or-map, length-map}
 use Rattle.tctl.specs.Graph.{Move}
 use Rattle.program.specs.declared.Stage.{Stage}
 use Rattle.program.specs.declared.Move as program
-use Rattle.program.specs.Meaning.{no_stage, no_move}
+use Rattle.program.specs.Meaning.{no_move}
 use Rattle.program.specs.Graphs.{timed_stage, timed_move, graph_of}
 use Rattle.settle.specs.Rows.{row}
 use Rattle.tally.specs.Walks.{among}
@@ -90,11 +90,6 @@ same_more was mid after one two =
         len = two.longest.len ∙ one.longest.len;
       };
     }
-
--- a stage of the graph
-pub timed_stage_at : (stages : List Stage) (s : ℕ) → s < length stages
-    → get_or (map timed_stage stages) s (record { marks = 0; shown = false }) ≡ timed_stage (get_or stages s no_stage)
-timed_stage_at stages s h = get_or-map timed_stage stages s no_stage (record { marks = 0; shown = false }) h
 
 -- a move of the graph
 pub timed_move_at : (moves : List program.Move) (k : ℕ) → k < length moves
