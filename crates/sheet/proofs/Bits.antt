@@ -12,6 +12,13 @@ use Rattle.sheet.proofs.Sets.{table_same}
 pub column_at : (n : ℕ) (sheet : List ℕ) (k s : ℕ) → s < n → bit k (get_or sheet s 0) ≡ at (column n sheet k) s
 column_at n sheet k s h = sym (table_at (λ x. bit k (get_or sheet x 0)) false n s h)
 
+-- two bits, in columns
+pub columns_at : (n : ℕ) (sheet : List ℕ) (f : Bool → Bool → Bool) (i j s : ℕ) → s < n
+    → f (bit i (get_or sheet s 0)) (bit j (get_or sheet s 0)) ≡ f (at (column n sheet i) s) (at (column n sheet j) s)
+columns_at n sheet f i j s h =
+    ap (λ x. f x (bit j (get_or sheet s 0))) (column_at n sheet i s h)
+    ∙ ap (f (at (column n sheet i) s)) (column_at n sheet j s h)
+
 half : (x m : ℕ) → (x + 2 ^ (m + 1)) % 2 ≡ x % 2
 half x m = ap (λ y. (x + y) % 2) (pow-add 2 m 1) ∙ add-mul-mod_self_right x (2 ^ m) 2
 

@@ -1,6 +1,6 @@
 -- The sets that the untils compute are the theory's lists.
-use Rattle.std.proofs.Common.{◌≡◌, ℕ, suc, ◌-◌, ◌<◌, ◌≤◌, Bool, true, false, leb, List, map, length, get_or, sym, refl, ap}
-use Rattle.std.proofs.Common.{◌∙◌, subst}
+use Rattle.std.proofs.Common.{◌≡◌, ℕ, suc, ◌-◌, ◌<◌, ◌≤◌, Bool, true, false, leb, List, map, length, get_or, sym, refl}
+use Rattle.std.proofs.Common.{ap, ◌∙◌, subst}
 use Rattle.std.proofs.lemmas.List.{length-map}
 use Rattle.tctl.specs.Graph.{Graph, Stage, size}
 use Rattle.tctl.specs.Checker.{non, none, shortest, longest, tally, table, at, some?, most?, least?, open?, endless}
@@ -16,7 +16,7 @@ use Rattle.tally.proofs.Laws.{reach_laws, minutes_laws}
 use Rattle.settle.specs.declared.links.Chained.{Chained}
 use Rattle.settle.specs.Rows.{row}
 use Rattle.sheet.specs.declared.stage_set.StageSet.{StageSet}
-use Rattle.sheet.specs.Sets.{stage_count, timed, has, UntilSet}
+use Rattle.sheet.specs.Sets.{stage_count, has}
 use Rattle.sheet.specs.Told.{reaches, short_to, long_from}
 use Rattle.sheet.proofs.Sets.{table_same, row_at}
 use Rattle.sheet.proofs.Homs.{told_reach, told_short, told_long}

@@ -1,6 +1,6 @@
 -- What the tallies of the code tell is what the theory's tallies tell.
-use Rattle.std.proofs.Common.{◌≡◌, ℕ, zero, suc, ◌<◌, ◌≤◌, min, Bool, true, false, Some, None, cond, eqb, List, [], ◌∷◌, map}
-use Rattle.std.proofs.Common.{length, get_or, sym, refl, ap, ◌∙◌, ⊎_elim, arith}
+use Rattle.std.proofs.Common.{◌≡◌, ℕ, zero, suc, ◌<◌, ◌≤◌, min, Bool, true, false, cond, eqb, List, [], ◌∷◌, map}
+use Rattle.std.proofs.Common.{Some, None, length, get_or, sym, refl, ap, ◌∙◌, ⊎_elim, arith}
 use Rattle.std.proofs.lemmas.Bool.{cases_lt, le-leb, lt-leb}
 use Rattle.program.specs.declared.Move.{Move}
 use Rattle.program.specs.Graphs.{timed_move}
@@ -14,7 +14,6 @@ use Rattle.tctl.specs.Graph.{Graph, Stage, size}
 use Rattle.tctl.specs.Checker as th
 use Rattle.tctl.specs.Checker.{Entry, none, sum, shortest, longest, table, at, some?, most?, least?}
 use Rattle.tctl.proofs.Basics.{table_at}
-
 use Rattle.sheet.specs.Told.{reaches, short_to, long_from}
 
 -- h carries the theory's tally k over to the tally K.

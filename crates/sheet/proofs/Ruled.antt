@@ -25,7 +25,8 @@ until_self p quantifier.Some (bound.AtLeast c) f g = table_self (size p) _
 until_self p quantifier.All (bound.AtMost c) f g = table_self (size p) _
 until_self p quantifier.All (bound.AtLeast c) f g = table_self (size p) _
 
-pub line_self : (p : Graph) (col : ℕ → List Bool) (l : Line) → table (size p) (at (line_list p col l)) ≡ line_list p col l
+pub line_self : (p : Graph) (col : ℕ → List Bool) (l : Line)
+    → table (size p) (at (line_list p col l)) ≡ line_list p col l
 line_self p col line.One = table_self (size p) _
 line_self p col (line.Letter a) = table_self (size p) _
 line_self p col (line.Not i) = table_self (size p) _

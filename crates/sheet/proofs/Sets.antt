@@ -1,12 +1,11 @@
 -- Sets as lists and as rows of words.
-use Rattle.std.proofs.Common.{◌≡◌, ℕ, zero, suc, ◌+◌, ◌<◌, ◌≤◌, Bool, true, false, eqb, ltb, List, ◌∷◌, map, length}
-use Rattle.std.proofs.Common.{get_or, set, sym, refl, ap, ◌∙◌, subst, ⊎_elim, arith}
-use Rattle.std.proofs.lemmas.List.{get_or-set_same, get_or-set_other, get_or-map, length-map}
-use Rattle.std.proofs.lemmas.Bool.{cases_eq, eq-eqb, ne_eqb}
-use Rattle.tctl.specs.Graph.{Move, Graph}
+use Rattle.std.proofs.Common.{◌≡◌, ℕ, zero, suc, ◌+◌, ◌<◌, ◌≤◌, Bool, true, false, eqb, List, ◌∷◌, map, length}
+use Rattle.std.proofs.Common.{get_or, sym, refl, ap, ◌∙◌, subst, arith}
+use Rattle.std.proofs.lemmas.List.{get_or-map, length-map}
+use Rattle.tctl.specs.Graph.{Move}
 use Rattle.program.specs.declared.Stage.{Stage}
 use Rattle.program.specs.declared.Move as program
-use Rattle.program.specs.Meaning.{no_stage, no_move}
+use Rattle.program.specs.Meaning.{no_move}
 use Rattle.program.specs.Graphs.{timed_stage, timed_move, graph_of}
 use Rattle.settle.specs.Rows.{row}
 use Rattle.tally.specs.Walks.{among}
@@ -14,7 +13,6 @@ use Rattle.tally.specs.Rounds.{Within}
 use Rattle.tctl.specs.Runs.{Sound}
 use Rattle.tctl.specs.Checker.{table, tab_from, at, into, any_move, ◌and◌, ◌or◌}
 use Rattle.tctl.proofs.Basics.{table_at}
-
 use Rattle.sheet.specs.declared.tables.Tables.{Tables}
 use Rattle.sheet.specs.Tables.{AreSpent, SameSlices}
 
@@ -92,11 +90,6 @@ same_more was mid after one two =
         len = two.longest.len ∙ one.longest.len;
       };
     }
-
--- a stage of the graph
-pub timed_stage_at : (stages : List Stage) (s : ℕ) → s < length stages
-    → get_or (map timed_stage stages) s (record { marks = 0; shown = false }) ≡ timed_stage (get_or stages s no_stage)
-timed_stage_at stages s h = get_or-map timed_stage stages s no_stage (record { marks = 0; shown = false }) h
 
 -- a move of the graph
 pub timed_move_at : (moves : List program.Move) (k : ℕ) → k < length moves

@@ -1,13 +1,13 @@
--- When as many rounds as there are stages say all: for reach and shortest always, and for longest where no walk can go on
--- for ever.
-use Rattle.std.proofs.Common.{◌≡◌, ℕ, ◌<◌, Bool, true, false, T, ◌⊎◌, List, [], ◌∷◌, map, length, sym, refl, ap, ◌∙◌, subst}
+-- When as many rounds as there are stages say all: for reach and shortest always, and for longest where no walk can go
+-- on for ever.
+use Rattle.std.proofs.Common.{◌≡◌, ℕ, ◌<◌, Bool, false, T, List, [], ◌∷◌, length, sym, refl, ap, ◌∙◌, subst}
 use Rattle.std.proofs.lemmas.List.{length-map}
 use Rattle.tctl.specs.Graph as timed
 use Rattle.tctl.specs.Checker.{non, table, at, any_move, endless, ◌and◌}
 use Rattle.tctl.proofs.Basics.{and_l, and_r, and_i, non_e, table_at, table_e, table_i}
-use Rattle.tctl.proofs.Endless.{In, in_set}
+use Rattle.tctl.proofs.Endless.{in_set}
 use Rattle.program.specs.declared.Move.{Move}
-use Rattle.program.specs.Meaning.{prog, no_move}
+use Rattle.program.specs.Meaning.{prog}
 use Rattle.program.specs.Graphs.{timed_stage, timed_move}
 use Rattle.tally.specs.declared.Reach.{Reach}
 use Rattle.tally.specs.Algebras.{reach_algebra, shortest_algebra, longest_algebra}
@@ -61,7 +61,8 @@ module _ (chained : Chained) where
       subst (λ (x : Reach). T x.0) (sym e) tt
 
   -- The moves leave stages of the graph.
-  from : (k : ℕ) → k < timed.count (timed chained) → (timed.move_at (timed chained) k).leaves < timed.size (timed chained)
+  from : (k : ℕ) → k < timed.count (timed chained)
+      → (timed.move_at (timed chained) k).leaves < timed.size (timed chained)
   from k h =
       let l : k < length moves = subst (λ n. k < n) (length-map moves timed_move) h in
       subst (λ i. (timed.move_at (timed chained) k).leaves < i)
@@ -70,53 +71,53 @@ module _ (chained : Chained) where
       (chained.linked.leaves.within k l).0)
 
   module _ (set ever rest goals : ℕ → Bool) (left : table n ever ≡ endless (timed chained) any_move (table n set) n)
-      where
-    -- What is passed by a walk is in the set, and not in the part that need not be left.
-    outside_settled : ((s : ℕ) (m : Move) (w : List Move) → Leads moves rest goals s (m ∷ w) → T (set s))
-        → ((s : ℕ) → s < n → T (rest s) → T (non (ever s)))
-        → Settles longest_algebra n moves rest goals
-    outside_settled inside out =
-        long_settles n moves chained.linked.leaves.within rest goals
-        (outside_few (prog chained.lists.stages.now moves) from (table n set) rest goals
-        (λ s m w h. table_i set n s
-        (subst (λ x. x < n) h.1 (has_within n moves chained.linked.leaves.within m h.0).0) (inside s m w h))
-        n
-        (λ s t i.
-        let l = (table_e set n s (in_set (timed chained) from any_move (table n set) n s i)).0 in
-        non_e (ever s) (out s l t)
-        (subst (λ b. T b) (table_at ever false n s l)
-        (subst (λ (x : List Bool). T (at x s)) (sym left) i))))
-
-    module _ (pass : ℕ → Bool) (apart : (s : ℕ) → s < n → rest s ≡ (pass s and non (ever s))) where
-      not_ever : (s : ℕ) → s < n → T (rest s) → T (non (ever s))
-      not_ever s l t = and_r (pass s) (non (ever s)) (subst (λ b. T b) (apart s l) t)
-
-      passed : (s : ℕ) → s < n → T (rest s) → T (pass s)
-      passed s l t = and_l (pass s) (non (ever s)) (subst (λ b. T b) (apart s l) t)
-
-      among_stages : (s : ℕ) (m : Move) (w : List Move) → Leads moves rest goals s (m ∷ w) → s < n
-      among_stages s m w h = subst (λ x. x < n) h.1 (has_within n moves chained.linked.leaves.within m h.0).0
-
-      wider : (s : ℕ) (w : List Move) → Leads moves rest goals s w → Leads moves pass goals s w
-      wider s [] h = h
-      wider s (m ∷ w) h = (h.0, h.1, passed s (among_stages s m w h) h.2, wider m.enters w h.3)
-
-      -- The part that need not be left is that of the set that was passed.
-      pub long_settled : ((s : ℕ) → s < n → set s ≡ pass s) → Settles longest_algebra n moves rest goals
-      long_settled same =
-          outside_settled
-          (λ s m w h. let l = among_stages s m w h in subst (λ b. T b) (sym (same s l)) (passed s l h.2)) not_ever
-
-      -- It is that of the stages of the set from which a walk leads to a goal.
-      pub led_settled : (reached : ℕ → Bool)
-          → ((s : ℕ) → s < n → reached s ≡ reaches 0 (tallied reach_algebra moves pass goals n s))
-          → ((s : ℕ) → s < n → set s ≡ (pass s and reached s))
+    where
+      -- What is passed by a walk is in the set, and not in the part that need not be left.
+      outside_settled : ((s : ℕ) (m : Move) (w : List Move) → Leads moves rest goals s (m ∷ w) → T (set s))
+          → ((s : ℕ) → s < n → T (rest s) → T (non (ever s)))
           → Settles longest_algebra n moves rest goals
-      led_settled reached told led =
-          outside_settled
-          (λ s m w h.
-          let l = among_stages s m w h in
-          subst (λ b. T b) (sym (led s l))
-          (and_i (pass s) (reached s) (passed s l h.2)
-          (subst (λ b. T b) (sym (told s l)) (reach_has pass goals s l (m ∷ w) (wider s (m ∷ w) h)))))
-          not_ever
+      outside_settled inside out =
+          long_settles n moves chained.linked.leaves.within rest goals
+          (outside_few (prog chained.lists.stages.now moves) from (table n set) rest goals
+          (λ s m w h. table_i set n s
+          (subst (λ x. x < n) h.1 (has_within n moves chained.linked.leaves.within m h.0).0) (inside s m w h))
+          n
+          (λ s t i.
+          let l = (table_e set n s (in_set (timed chained) from any_move (table n set) n s i)).0 in
+          non_e (ever s) (out s l t)
+          (subst (λ b. T b) (table_at ever false n s l)
+          (subst (λ (x : List Bool). T (at x s)) (sym left) i))))
+
+      module _ (pass : ℕ → Bool) (apart : (s : ℕ) → s < n → rest s ≡ (pass s and non (ever s))) where
+        not_ever : (s : ℕ) → s < n → T (rest s) → T (non (ever s))
+        not_ever s l t = and_r (pass s) (non (ever s)) (subst (λ b. T b) (apart s l) t)
+
+        passed : (s : ℕ) → s < n → T (rest s) → T (pass s)
+        passed s l t = and_l (pass s) (non (ever s)) (subst (λ b. T b) (apart s l) t)
+
+        among_stages : (s : ℕ) (m : Move) (w : List Move) → Leads moves rest goals s (m ∷ w) → s < n
+        among_stages s m w h = subst (λ x. x < n) h.1 (has_within n moves chained.linked.leaves.within m h.0).0
+
+        wider : (s : ℕ) (w : List Move) → Leads moves rest goals s w → Leads moves pass goals s w
+        wider s [] h = h
+        wider s (m ∷ w) h = (h.0, h.1, passed s (among_stages s m w h) h.2, wider m.enters w h.3)
+
+        -- The part that need not be left is that of the set that was passed.
+        pub long_settled : ((s : ℕ) → s < n → set s ≡ pass s) → Settles longest_algebra n moves rest goals
+        long_settled same =
+            outside_settled
+            (λ s m w h. let l = among_stages s m w h in subst (λ b. T b) (sym (same s l)) (passed s l h.2)) not_ever
+
+        -- It is that of the stages of the set from which a walk leads to a goal.
+        pub led_settled : (reached : ℕ → Bool)
+            → ((s : ℕ) → s < n → reached s ≡ reaches 0 (tallied reach_algebra moves pass goals n s))
+            → ((s : ℕ) → s < n → set s ≡ (pass s and reached s))
+            → Settles longest_algebra n moves rest goals
+        led_settled reached told led =
+            outside_settled
+            (λ s m w h.
+            let l = among_stages s m w h in
+            subst (λ b. T b) (sym (led s l))
+            (and_i (pass s) (reached s) (passed s l h.2)
+            (subst (λ b. T b) (sym (told s l)) (reach_has pass goals s l (m ∷ w) (wider s (m ∷ w) h)))))
+            not_ever

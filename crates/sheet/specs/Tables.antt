@@ -11,11 +11,16 @@ pub record HaveRoom (n : ℕ) (tables : Tables) : Type 0 where
   pub shortest : 4 * n ≤ length tables.shortest.now
   pub longest : 4 * n ≤ length tables.longest.now
 
--- These are none.
+-- The first four entries a stage are none.
 pub record AreBlank (n : ℕ) (tables : Tables) : Type 0 where
   pub reached : Blank reach_algebra.none n tables.reached.now
   pub shortest : Blank shortest_algebra.none n tables.shortest.now
   pub longest : Blank longest_algebra.none n tables.longest.now
+
+-- The tables may be used.
+pub record AreReady (n : ℕ) (tables : Tables) : Type 0 where
+  pub room : HaveRoom n tables
+  pub blank : AreBlank n tables
 
 -- The tables after their use: those entries are none, the rest is as found.
 pub record AreSpent (n : ℕ) (was after : Tables) : Type 0 where

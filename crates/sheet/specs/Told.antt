@@ -1,5 +1,6 @@
 -- What a tally tells of a number of minutes, and a table before and after its use.
-use Rattle.std.specs.Prelude.{◌≡◌, ℕ, ◌*◌, ◌<◌, ◌≤◌, Bool, true, false, List, Option, Some, None, nat_le, slice_index_or}
+use Rattle.std.specs.Prelude.{◌≡◌, ℕ, ◌*◌, ◌<◌, ◌≤◌, Bool, true, false, List, Option, Some, None}
+use Rattle.std.specs.Prelude.{nat_le, slice_index_or}
 use Rattle.tally.specs.declared.Reach.{Reach}
 use Rattle.tally.specs.declared.Minutes.{Minutes}
 
@@ -7,13 +8,13 @@ abbrev pub reaches : ℕ → Reach → Bool
 reaches c a = a.0
 
 -- Whether the longest walk has so many minutes or more, or the shortest so many or fewer.
-abbrev pub bounded : Bool → ℕ → Option ℕ → Bool
-bounded longest c None = false
-bounded true c (Some a) = nat_le c a
-bounded false c (Some a) = nat_le a c
+abbrev pub option_tells : Bool → ℕ → Option ℕ → Bool
+option_tells longest c None = false
+option_tells true c (Some a) = nat_le c a
+option_tells false c (Some a) = nat_le a c
 
 abbrev pub minutes_tell : {n : ℕ} → Bool → ℕ → Minutes n → Bool
-minutes_tell longest c a = bounded longest c a.0
+minutes_tell longest c a = option_tells longest c a.0
 
 abbrev pub short_to : ℕ → Minutes 0 → Bool
 short_to = minutes_tell false

@@ -3,8 +3,8 @@
 
 #![tactic(auto)]
 
-mod stage_set;
 pub mod sheets;
+mod stage_set;
 pub mod tables;
 pub mod told;
 mod untils;

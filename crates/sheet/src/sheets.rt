@@ -7,7 +7,7 @@ ghost use Rattle.tctl.specs.Runs.{Sound};
 ghost use Rattle.tctl.specs.Holds.{marked};
 ghost use Rattle.tctl.specs.Checker.{at};
 ghost use Rattle.sheet.specs.Sets.{has, listed, stage_count, timed};
-ghost use Rattle.sheet.specs.Tables.{HaveRoom, AreBlank, AreSpent, SameSlices};
+ghost use Rattle.sheet.specs.Tables.{HaveRoom, AreReady, AreSpent, SameSlices};
 ghost use Rattle.sheet.specs.Sheets.{bit, column, until_list, line_list, Added, Below, Names};
 
 use crate::stage_set::{StageSet, is_open};
@@ -72,8 +72,7 @@ fn until_set(
     tables: &mut Tables,
 ) -> StageSet
     requires small { bound_number bound ≤ largest_number }
-    requires room { HaveRoom (stage_count chained.now) tables.old }
-    requires blank { AreBlank (stage_count chained.now) tables.old }
+    requires ready { AreReady (stage_count chained.now) tables.old }
     ensures is { listed (stage_count chained.now) result
         ≡ until_list (timed chained.now) quantifier bound (listed (stage_count chained.now) f.now)
         (listed (stage_count chained.now) g.now) }
@@ -92,8 +91,7 @@ fn until_set(
 fn line_set(chained: &Chained, line: Line, sheet: &[u32], tables: &mut Tables) -> StageSet
     requires formed { Formed most_lines line }
     requires sheet { stage_count chained.now ≤ length sheet.now }
-    requires room { HaveRoom (stage_count chained.now) tables.old }
-    requires blank { AreBlank (stage_count chained.now) tables.old }
+    requires ready { AreReady (stage_count chained.now) tables.old }
     ensures is { listed (stage_count chained.now) result
         ≡ line_list (timed chained.now) (column (stage_count chained.now) sheet.now) line }
     ensures spent { AreSpent (stage_count chained.now) tables.old tables.new }
@@ -127,8 +125,7 @@ fn add_line(chained: &Chained, k: usize, line: Line, sheet: &mut [u32], tables: 
     requires formed { Formed most_lines line }
     requires sheet { stage_count chained.now ≤ length sheet.old }
     requires below { Below (stage_count chained.now) k sheet.old }
-    requires room { HaveRoom (stage_count chained.now) tables.old }
-    requires blank { AreBlank (stage_count chained.now) tables.old }
+    requires ready { AreReady (stage_count chained.now) tables.old }
     ensures added { Added (stage_count chained.now) k
         (at (line_list (timed chained.now) (column (stage_count chained.now) sheet.old) line))
         sheet.old sheet.new }

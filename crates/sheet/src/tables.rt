@@ -1,5 +1,6 @@
 // The tables of the three tallies, four entries a stage.
-ghost use Rattle.std.specs.Prelude.{◌^◌, ◌<◌};
+ghost use Rattle.std.specs.Prelude.{◌≤◌};
+ghost use Rattle.program.specs.Meaning.{most_stages};
 ghost use Rattle.sheet.specs.Tables.{HaveRoom, AreSpent, SameSlices};
 
 use tally::rows::clear;
@@ -15,7 +16,7 @@ pub struct Tables<'a> {
 impl Tables<'_> {
     // Makes the entries of n stages none.
     pub(crate) fn clear(&mut self, n: usize)
-        requires few { n < 2 ^ 16 }
+        requires few { n ≤ most_stages }
         requires room { HaveRoom n self.old }
         ensures spent { AreSpent n self.old self.new }
         ensures slices { SameSlices self.old self.new }

@@ -61,12 +61,13 @@ pub(crate) fn tell<T: Told>(
     let n = chained.lists.stages.len();
     tally_all(chained, &pass.words, &goals.words, table);
     let entries = &*table;
-    let holds = StageSet::of(n, |s: usize| -> bool
-        requires { s < length entries.now }
-        ensures { result ≡ T.Told.tells minutes (entry T.Tally.algebra entries.entry.now s) }
-    {
-        entries[s].told(minutes)
-    });
+    let holds = StageSet::of(
+        n,
+        |s: usize| -> bool
+            requires { s < length entries.now }
+            ensures { result ≡ T.Told.tells minutes (entry T.Tally.algebra entries.entry.now s) }
+        { entries[s].told(minutes) },
+    );
     clear(0, n, table);
     holds
 }

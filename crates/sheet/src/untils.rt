@@ -1,5 +1,5 @@
-// The four untils, each from the sets of the stages where its parts hold. A stage may be passed if it is silent, or if the
-// left part holds there.
+// The four untils, each from the sets of the stages where its parts hold. A stage may be passed if it is silent, or if
+// the left part holds there.
 ghost use Rattle.std.specs.Prelude.{◌-◌, ◌*◌, ◌≤◌, length, nat_le};
 ghost use Rattle.rules.specs.Lines.{largest_number};
 ghost use Rattle.tally.specs.Algebras.{reach_algebra, shortest_algebra, longest_algebra};
@@ -8,7 +8,7 @@ ghost use Rattle.tctl.specs.Checker.{non, some_list, each_list, open?, ◌and◌
 ghost use Rattle.tctl.specs.Rules.{most, least};
 ghost use Rattle.sheet.specs.Sets.{has, stage_count, timed, Says, UntilSet};
 ghost use Rattle.sheet.specs.Told.{Spent, reaches, short_to};
-ghost use Rattle.sheet.specs.Tables.{HaveRoom, AreBlank, AreSpent, SameSlices};
+ghost use Rattle.sheet.specs.Tables.{AreReady, AreSpent, SameSlices};
 
 use crate::stage_set::{StageSet, is_open};
 use crate::tables::Tables;
@@ -66,8 +66,7 @@ pub(crate) fn some_most(
     tables: &mut Tables,
 ) -> StageSet
     requires small { c ≤ largest_number }
-    requires room { HaveRoom (stage_count chained.now) tables.old }
-    requires blank { AreBlank (stage_count chained.now) tables.old }
+    requires ready { AreReady (stage_count chained.now) tables.old }
     ensures is { UntilSet some_list chained.now f.now (most c) g.now result }
     ensures spent { AreSpent (stage_count chained.now) tables.old tables.new }
     ensures slices { SameSlices tables.old tables.new }
@@ -87,8 +86,7 @@ pub(crate) fn some_least(
     tables: &mut Tables,
 ) -> StageSet
     requires small { c ≤ largest_number }
-    requires room { HaveRoom (stage_count chained.now) tables.old }
-    requires blank { AreBlank (stage_count chained.now) tables.old }
+    requires ready { AreReady (stage_count chained.now) tables.old }
     ensures is { UntilSet some_list chained.now f.now (least c) g.now result }
     ensures spent { AreSpent (stage_count chained.now) tables.old tables.new }
     ensures slices { SameSlices tables.old tables.new }
@@ -113,8 +111,7 @@ pub(crate) fn each_most(
     tables: &mut Tables,
 ) -> StageSet
     requires small { c ≤ largest_number }
-    requires room { HaveRoom (stage_count chained.now) tables.old }
-    requires blank { AreBlank (stage_count chained.now) tables.old }
+    requires ready { AreReady (stage_count chained.now) tables.old }
     ensures is { UntilSet each_list chained.now f.now (most c) g.now result }
     ensures spent { AreSpent (stage_count chained.now) tables.old tables.new }
     ensures slices { SameSlices tables.old tables.new }
@@ -141,8 +138,7 @@ pub(crate) fn each_least(
     tables: &mut Tables,
 ) -> StageSet
     requires small { c ≤ largest_number }
-    requires room { HaveRoom (stage_count chained.now) tables.old }
-    requires blank { AreBlank (stage_count chained.now) tables.old }
+    requires ready { AreReady (stage_count chained.now) tables.old }
     ensures is { UntilSet each_list chained.now f.now (least c) g.now result }
     ensures spent { AreSpent (stage_count chained.now) tables.old tables.new }
     ensures slices { SameSlices tables.old tables.new }

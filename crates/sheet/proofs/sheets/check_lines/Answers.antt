@@ -1,16 +1,14 @@
-use Rattle.std.proofs.Common.{◌≡◌, ℕ, ◌^◌, ◌<◌, Bool, T, length, get_or, sym, ap, ◌∙◌, subst, ⊎_elim, arith, rules}
+use Rattle.std.proofs.Common.{◌≡◌, ℕ, ◌^◌, ◌<◌, Bool, T, length, get_or, sym, ap, ◌∙◌, subst, ⊎_elim, arith}
 use Rattle.std.proofs.lemmas.Bool.{cases_eq}
 use Rattle.std.proofs.lemmas.Grind.{common_steps}
 use Rattle.tctl.specs.Checker.{at, where_holds}
-use Rattle.tctl.proofs.Basics.{table_at}
 use Rattle.tctl.proofs.Checked.{right}
 use Rattle.rules.specs.declared.line.Line.TheVariants.{One}
-use Rattle.rules.specs.Lines.{most_lines, rule_at}
-use Rattle.rules.proofs.Ruled.{formed_more}
+use Rattle.rules.specs.Lines.{rule_at}
 use Rattle.sheet.specs.Sets.{stage_count, timed}
 use Rattle.sheet.specs.Sheets.{bit, column, line_list}
 use Rattle.sheet.proofs.Sets.{table_stages, spent_more, same_more}
-use Rattle.sheet.proofs.Bits.{column_kept, column_new, below_new}
+use Rattle.sheet.proofs.Bits.{column_at, column_kept, column_new, below_new}
 use Rattle.sheet.proofs.Ruled.{column_is}
 use Rattle.sheet.proofs.sheets.check_lines.Goals as goal
 
@@ -51,7 +49,7 @@ returns-clause-names c =
     let ends : c.loop-k.k ≡ length lines = omega arith in
     let said : (k : ℕ) → k < length lines → (s : ℕ) → s < n → bit k (get_or after s 0)
     ≡ at (where_holds p (rule_at lines k)) s = λ k h s l.
-    sym (table_at (λ (x : ℕ). bit k (get_or after x 0)) _ n s l) ∙ ap (λ x. at x s) (c.loop-k.invariant.0 k (omega arith)) in
+    column_at n after k s l ∙ ap (λ x. at x s) (c.loop-k.invariant.0 k (omega arith)) in
     record {
       exact = λ k h s l.
           let e = said k h s l in

@@ -1,8 +1,5 @@
-use Rattle.std.proofs.Common.{rules, ap, ◌∙◌, arith}
-use Rattle.tally.specs.Algebras.{shortest_algebra}
-use Rattle.tally.specs.Walks.{tallied}
-use Rattle.sheet.specs.Sets.{has, stage_count}
-use Rattle.sheet.specs.Told.{short_to}
+use Rattle.std.proofs.Common.{rules, arith}
+use Rattle.sheet.specs.Sets.{has}
 use Rattle.sheet.proofs.Cases.{each_least_set}
 use Rattle.sheet.proofs.Settled.{short_settled}
 use Rattle.sheet.proofs.untils.each_least.Goals as goal

@@ -1,4 +1,4 @@
-use Rattle.std.proofs.Common.{ℕ, ◌+◌, List, map, get_or, drop, sym, ap, ◌∙◌, arith, ltb, eqb}
+use Rattle.std.proofs.Common.{◌+◌, List, map, get_or, drop, sym, ap, ◌∙◌, arith, ltb, eqb}
 use Rattle.std.proofs.lemmas.List.{at_drop_more, at_drop_all, get_or-replicate}
 use Rattle.program.specs.declared.Move.{Move}
 use Rattle.program.specs.Meaning.{no_move, most_stages}

@@ -1,7 +1,7 @@
 use Rattle.std.proofs.Common.{◌≡◌, ℕ, ◌<◌, map, drop}
 use Rattle.tctl.specs.Checker.{any_move, into, ◌or◌}
 use Rattle.program.specs.Graphs.{timed_move}
-use Rattle.sheet.specs.Sets.{has, listed, stage_count, timed}
+use Rattle.sheet.specs.Sets.{has, listed, stage_count}
 use Rattle.sheet.proofs.stage_set.StageSet.sources.Given as goal
 
 -- with the moves that are left, each stage is in the set that is by all of them
