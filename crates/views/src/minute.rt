@@ -36,6 +36,7 @@ impl<'a, P: Program> MinuteView<'a, P> {
         }
     }
 
+    // The lengths of the view's two lists, which are empty where the minute program has too many.
     fn lengths(&self) -> Lengths
         ensures { LengthsOf (viewed self.now.pieces.first
             (P.Program.meaning self.now.program.now)) result }
