@@ -1,5 +1,5 @@
 // Sets of stages.
-ghost use Rattle.std.specs.Prelude.{◌≡◌, ℕ, ◌<◌, ◌≤◌, length, ◌==◌};
+ghost use Rattle.std.specs.Prelude.{◌≡◌, ℕ, ◌<◌, ◌≤◌, ◌==◌};
 ghost use Rattle.tctl.specs.Checker.{any_move, endless, into, open?, non, ◌and◌, ◌or◌};
 ghost use Rattle.program.specs.Meaning.{most_stages};
 ghost use Rattle.sheet.specs.Sets.{has, listed, stage_count, timed, Says};

@@ -1,20 +1,20 @@
 // The four untils, each from the sets of the stages where its parts hold. A stage may be passed if it is silent, or if
 // the left part holds there.
-ghost use Rattle.std.specs.Prelude.{◌-◌, ◌*◌, ◌≤◌, length, nat_le};
+ghost use Rattle.std.specs.Prelude.{◌*◌, ◌≤◌, length};
 ghost use Rattle.rules.specs.Lines.{largest_number};
-ghost use Rattle.tally.specs.Algebras.{reach_algebra, shortest_algebra, longest_algebra};
+ghost use Rattle.tally.specs.Algebras.{reach_algebra};
 ghost use Rattle.tally.specs.Walks.{tallied};
 ghost use Rattle.tctl.specs.Checker.{non, some_list, each_list, open?, ◌and◌, ◌or◌};
 ghost use Rattle.tctl.specs.Rules.{most, least};
 ghost use Rattle.sheet.specs.Sets.{has, stage_count, timed, Says, UntilSet};
-ghost use Rattle.sheet.specs.Told.{Spent, reaches, short_to};
+ghost use Rattle.sheet.specs.Told.{Spent, reaches};
 ghost use Rattle.sheet.specs.Tables.{AreReady, AreSpent, SameSlices};
 
 use crate::stage_set::{StageSet, is_open};
 use crate::tables::Tables;
 use crate::told::tell;
 use settle::links::Chained;
-use tally::{Reach, Shortest};
+use tally::Reach;
 
 // Where there is a walk.
 fn reached(chained: &Chained, pass: &StageSet, goals: &StageSet, table: &mut [Reach]) -> StageSet
