@@ -15,7 +15,7 @@ abbrev pub bound_text : Bound → List ℕ
 bound_text (bound.AtMost n) = codes "U<=" ++ decimal n
 bound_text (bound.AtLeast n) = codes "U>=" ++ decimal n
 
--- What is printed of a line that may stand in a rule: its letter is one of sixteen.
+-- What is printed of a line. In a rule a letter is one of sixteen; the number of any other wraps at a byte.
 abbrev pub line_text : Line → List ℕ
 line_text line.One = codes "1"
 line_text (line.Letter k) = encode_utf8 ((97 + k) % 256)
