@@ -6,10 +6,8 @@
 ghost use Rattle.std.specs.Prelude.{◌≡◌, ◌+◌, IfSome, IfOk, take};
 
 use anyhow::anyhow;
-use layout::faults::PageFault;
 use layout::loading::MOST_BYTES;
 use page::pages::Summary;
-use program::EditFault;
 use std::alloc::Global;
 use std::io;
 use std::io::{Read, Write};
@@ -22,19 +20,6 @@ fn read_page<R: Read + Drop>(heap: Global, from: R) -> io::Result<Vec<u8>>
     let mut page = Vec::new(heap);
     from.take(MOST_BYTES as u64 + 1).read_to_end(&mut page)?;
     Ok(page)
-}
-
-// What an edit was refused for, in words.
-fn edit_words(fault: EditFault) -> &'static str {
-    match fault {
-        EditFault::NoStage => "there is no such stage",
-        EditFault::SilentStage => "the stage is silent",
-        EditFault::NoMove => "there is no such move",
-        EditFault::TooLong => "the move takes more than 10080 minutes",
-        EditFault::StagesFull => "there are too many stages",
-        EditFault::MovesFull => "there are too many moves",
-        EditFault::NothingToJoin => "the last stage is not a silent one",
-    }
 }
 
 // Says on standard error what was done.
@@ -50,18 +35,7 @@ fn say(rt: &impl Eprint, summary: Summary) -> io::Result<()> {
                 "stages {stages}, moves {moves}, rules {total}: {checked} checked, {refused} refused"
             )
         }
-        Summary::Refused { fault } => match fault {
-            PageFault::TooLong => eprintln!(rt;
-                "page refused: it has more than {MOST_BYTES} bytes"
-            ),
-            PageFault::OutOfForm { line } => eprintln!(rt;
-                "page refused: line {line} is out of form"
-            ),
-            PageFault::Edit { line, fault } => {
-                let words = edit_words(fault);
-                eprintln!(rt; "page refused: at line {line}, {words}")
-            }
-        },
+        Summary::Refused { fault } => eprintln!(rt; "page refused: {fault}"),
     }
 }
 
