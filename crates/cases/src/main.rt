@@ -12,26 +12,23 @@ fn agrees(rt: &HostRuntime, name: &str) -> anyhow::Result<bool> {
     let due = fs::read(rt, format!(in heap; "{name}.out")?)?;
     let mut out = Vec::new(heap);
     let _summary = page::answer(heap, page.as_slice(), &mut out)?;
-    if out.as_slice() == due.as_slice() {
-        return Ok(true);
+    let agrees = out == due;
+    if !agrees {
+        println!(rt; "{name} differs, due is")?;
+        rt.stdout().write_all(due.as_slice())?;
+        println!(rt; "and given was")?;
+        rt.stdout().write_all(out.as_slice())?;
     }
-    println!(rt; "{name} differs, due is")?;
-    rt.stdout().write_all(due.as_slice())?;
-    println!(rt; "and given was")?;
-    rt.stdout().write_all(out.as_slice())?;
-    Ok(false)
+    Ok(agrees)
 }
 
 fn main(rt: HostRuntime) -> anyhow::Result<()> {
-    let mut agree = 0u32;
-    let mut differ = 0u32;
-    for name in env::args(&rt)?.skip(1) {
-        if agrees(&rt, name.as_str())? {
-            agree = agree.saturating_add(1);
-        } else {
-            differ = differ.saturating_add(1);
-        }
-    }
+    let verdicts: Vec<bool> = env::args(&rt)?
+        .skip(1)
+        .map(|name| agrees(&rt, name.as_str()))
+        .try_collect(rt.alloc())?;
+    let agree = verdicts.iter().filter(|agrees| **agrees).count();
+    let differ = verdicts.len() - agree;
     println!(rt; "{agree} pages agree, {differ} differ")?;
     Ok(())
 }

@@ -4,7 +4,7 @@ ghost use Rattle.page.specs.Answers.{holds_in, stages_of, holds_line, refused};
 ghost use Rattle.page.specs.Answers.{answer_of, rule_bytes, Lined};
 
 use crate::faults::ConsoleFault;
-use checker::faults::CheckFault;
+use checker::CheckFault;
 use itertools::Itertools;
 use std::alloc::AllocError;
 

@@ -43,10 +43,10 @@ impl Counts {
 fn next_rule(bytes: &[u8]) -> Option<(&[u8], &[u8])>
     ensures { NextRule bytes.now result }
 {
-    match next_line(bytes, Part::Rules)? {
-        (PageLine::Rule { text }, rest) => Some((text, rest)),
-        _ => None,
-    }
+    let (PageLine::Rule { text }, rest) = next_line(bytes, Part::Rules)? else {
+        return None;
+    };
+    Some((text, rest))
 }
 
 // Checks a rule and appends its answer, which is given back too.

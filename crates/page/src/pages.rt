@@ -11,7 +11,7 @@ use program::Store;
 use std::alloc::AllocError;
 
 // What was done with a page.
-#[derive(Clone, Copy, PartialEq, Debug)]
+#[derive(Clone, Copy, PartialEq, Eq, Debug)]
 pub enum Summary {
     // its rules were answered
     Answered {
