@@ -42,7 +42,7 @@ pub(crate) fn check_rows(
     if n == 0 {
         return Err(CheckFault::NoStage);
     }
-    if let Some(s) = dead_end(lists) {
+    if let Some(s) = dead_end(lists.stages, lists.moves) {
         return Err(CheckFault::DeadEnd(s));
     }
     let chained = Chained::of(*lists);

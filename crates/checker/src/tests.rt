@@ -6,18 +6,17 @@ ghost use Rattle.tally.specs.Walks.{among};
 ghost use Rattle.tally.specs.Rounds.{Within};
 ghost use Rattle.checker.specs.Found.{DeadFound, CycleFound, Found, meets, ahead, steps};
 
-use program::lists::Lists;
-use program::{MOST_STAGES, Move};
+use program::{MOST_STAGES, Move, Stage};
 use settle::endless::{Sort, keep_endless};
 use settle::links::Chained;
 
 // The lowest stage that no move leaves.
-pub fn dead_end(lists: &Lists) -> Option<usize>
-    ensures { DeadFound (prog lists.now.stages.now lists.now.moves.now) result }
+pub fn dead_end(stages: &[Stage], moves: &[Move]) -> Option<usize>
+    ensures { DeadFound (prog stages.now moves.now) result }
 {
     // Stages by moves, left by a label: the form that the project asks for here.
-    'stages: for s in 0..lists.stages.len() {
-        for m in lists.moves {
+    'stages: for s in 0..stages.len() {
+        for m in moves {
             if m.leaves as usize == s {
                 continue 'stages;
             }

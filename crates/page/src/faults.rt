@@ -3,7 +3,7 @@ use checker::CheckFault;
 use layout::faults::PageFault;
 
 // The fault below is carried whole.
-#[derive(Clone, Copy, PartialEq, Debug)]
+#[derive(Clone, Copy, PartialEq, Eq, Debug)]
 pub enum ConsoleFault {
     // of the page
     Page(PageFault),

@@ -42,6 +42,13 @@ most_minutes = 10080
 abbrev pub Fits : ℕ → Move → Type 0
 Fits n m = (m.leaves < n) × (m.enters < n) × (m.minutes ≤ most_minutes)
 
+-- What lists keep of which each move joins two of the stages, whatever minutes it takes.
+pub record Joined (p : Prog) : Type 0 where
+  pub few_stages : length p.stages ≤ most_stages
+  pub few_moves : length p.moves ≤ most_moves
+  pub ends : (k : ℕ) → k < length p.moves
+      → ((move_at p k).leaves < length p.stages) × ((move_at p k).enters < length p.stages)
+
 -- What every readable program keeps.
 pub record Limits (p : Prog) : Type 0 where
   pub few_stages : length p.stages ≤ most_stages

@@ -1,38 +1,16 @@
 // The two lists of a program as slices, and a copy of them, for which a readable program is asked once.
 ghost use Rattle.std.specs.Prelude.{◌≡◌, ℕ, ◌<◌, ◌≤◌, length, slice_index_or};
-ghost use Rattle.program.specs.Meaning.{Limits, prog};
+ghost use Rattle.program.specs.Meaning.{Joined, Limits, prog};
 
-use crate::{MOST_MOVES, MOST_STAGES, Move, NO_MOVE, NO_STAGE, Program, Stage};
+use crate::{MOST_MOVES, MOST_STAGES, Move, Program, Stage};
 use arrayvec::ArrayVec;
 
-// The lists of a program: a readable program again.
+// The lists of a program: few enough stages and moves, and each move joins two of the stages.
 #[derive(Clone, Copy)]
 pub struct Lists<'a> {
     pub stages: &'a [Stage],
     pub moves: &'a [Move],
-    pub ghost limits: { Limits (prog stages.now moves.now) },
-}
-
-impl<'a> Program for Lists<'a> {
-    ghost meaning = { λ l. prog l.stages.now l.moves.now };
-
-    ghost limits = { λ l. l.limits };
-
-    fn stage_count(&self) -> usize {
-        self.stages.len()
-    }
-
-    fn move_count(&self) -> usize {
-        self.moves.len()
-    }
-
-    fn stage(&self, s: usize) -> Stage {
-        self.stages.get(s).copied().unwrap_or(NO_STAGE)
-    }
-
-    fn move_at(&self, k: usize) -> Move {
-        self.moves.get(k).copied().unwrap_or(NO_MOVE)
-    }
+    pub ghost joined: { Joined (prog stages.now moves.now) },
 }
 
 // A copy of the lists of a program.

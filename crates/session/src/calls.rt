@@ -20,14 +20,14 @@ pub struct Verdict {
     pub words: Vec<u32>,
 }
 
-#[derive(Clone, PartialEq, Debug, Drop)]
+#[derive(Clone, PartialEq, Eq, Debug, Drop)]
 pub enum Answer {
     Edited(Result<usize, EditFault>),
     Checked(Result<Verdict, CheckFault>),
 }
 
 // There was no memory for the next answer. The calls that these answer were made, and no other.
-#[derive(PartialEq, Debug, Drop)]
+#[derive(PartialEq, Eq, Debug, Drop)]
 pub struct OutOfMemory {
     pub answers: Vec<Answer>,
 }

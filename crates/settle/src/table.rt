@@ -152,7 +152,7 @@ impl ChainedWalks<'_, '_, '_> {
             (among self.now.walks.pass.now) (among self.now.walks.goals.now) (entry T.Tally.algebra table.new)) }
     {
         let mut queue = Queue::empty();
-        begin_row(0, &self.walks, table);
+        begin_row(0, self.walks.stages, self.walks.goals, table);
         self.line_up(&mut queue)?;
         self.flow(table, &mut queue)
     }

@@ -11,20 +11,16 @@ use crate::Tally;
 use crate::walks::Walks;
 use program::Move;
 
-// Writes what is said of the walk without moves from each stage, if it is a goal, from the place `at` on.
-pub fn begin_row<T: Tally>(at: usize, walks: &Walks, table: &mut [T])
-    requires room { at + walks.now.stages ≤ length table.old }
-    ensures written { Written T.Tally.algebra at walks.now.stages
-        (begins T.Tally.algebra (among walks.now.goals.now)) table.new }
+// Writes what is said of the walk without moves from each of n stages, if it is a goal, from the place `at` on.
+pub fn begin_row<T: Tally>(at: usize, n: usize, goals: &[u32], table: &mut [T])
+    requires goals { n ≤ length goals.now }
+    requires room { at + n ≤ length table.old }
+    ensures written { Written T.Tally.algebra at n (begins T.Tally.algebra (among goals.now)) table.new }
     ensures below { KeptBelow T.Tally.algebra at table.old table.new }
-    ensures above { KeptFrom T.Tally.algebra (at + walks.now.stages) table.old table.new }
+    ensures above { KeptFrom T.Tally.algebra (at + n) table.old table.new }
 {
-    for (s, entry) in table[at..at + walks.stages].iter_mut().enumerate() {
-        *entry = if walks.goals[s] > 0 {
-            T::start()
-        } else {
-            T::none()
-        };
+    for (s, entry) in table[at..at + n].iter_mut().enumerate() {
+        *entry = if goals[s] > 0 { T::start() } else { T::none() };
     }
 }
 
@@ -99,7 +95,7 @@ fn turn<T: Tally>(walks: &Walks, table: &mut [T]) -> bool
     ensures told { result ≡ true → Holding T.Tally.algebra walks.now.stages (entry T.Tally.algebra table.new)
         table.old }
 {
-    begin_row(walks.stages, walks, table);
+    begin_row(walks.stages, walks.stages, walks.goals, table);
     pour(walks, table);
     settle(walks.stages, table)
 }
@@ -111,7 +107,7 @@ fn repeat<T: Tally>(walks: &Walks, k: u16, table: &mut [T])
         (among walks.now.pass.now) (among walks.now.goals.now) k) table.new }
     ensures above { KeptFrom T.Tally.algebra (2 * walks.now.stages) table.old table.new }
 {
-    begin_row(0, walks, table);
+    begin_row(0, walks.stages, walks.goals, table);
     for _done in 0..k {
         if turn(walks, table) {
             return;

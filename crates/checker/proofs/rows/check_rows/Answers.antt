@@ -35,7 +35,7 @@ check_lines-requires c =
     let was = held c.args.sheet.now c.args.tables.now in
     let enough = enough_if (length lists.stages.now) was (sym c.has_room.ensures ∙ c.if-not-has_room.false) in
     let sound =
-    sound_if lists.stages.now lists.moves.now (λ k h. ((lists.limits.ends k h).0, (lists.limits.ends k h).1))
+    sound_if lists.stages.now lists.moves.now lists.joined.ends
     c.in_default.ensures still in
     let back = sym c.of-chained.ensures in
     record {

@@ -6,6 +6,6 @@ use Rattle.checker.proofs.tests.dead_end.Goals as goal
 
 pub stages-preserved : goal.stages-preserved
 stages-preserved c t h =
-    let p = prog c.args.lists.now.stages.now c.args.lists.now.moves.now in
+    let p = prog c.args.stages.now c.args.moves.now in
     ⊎_elim (λ e. subst (Onward p) (sym e) (c.loop-m.m-index, c.loop-m-test.true, c.if-m-s.true))
     (λ ne. c.stages.invariant t (omega arith)) (cases_eq t c.stages.s)

@@ -5,7 +5,7 @@ use Rattle.checker.specs.Outcomes.{Onward}
 use Rattle.checker.proofs.tests.dead_end.Given as goal
 
 abbrev pub invariant-stages : goal.invariant-stages
-invariant-stages l = (t : ℕ) → t < l.s → Onward (prog l.lists.stages.now l.lists.moves.now) t
+invariant-stages l = (t : ℕ) → t < l.s → Onward (prog l.stages l.moves) t
 
 abbrev pub invariant-loop-m : goal.invariant-loop-m
-invariant-loop-m l = (k : ℕ) → k < l.m-index → (get_or l.lists.moves.now k no_move).leaves ≡ l.s → ⊥
+invariant-loop-m l = (k : ℕ) → k < l.m-index → (get_or l.moves k no_move).leaves ≡ l.s → ⊥

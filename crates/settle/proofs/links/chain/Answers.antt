@@ -2,7 +2,7 @@ use Rattle.std.proofs.Common.{ℕ, ◌<◌, length, Option, Some, None, replicat
 use Rattle.std.proofs.lemmas.List.{get_or-replicate, length-replicate, length-set}
 use Rattle.program.specs.Meaning.{most_stages, most_moves}
 use Rattle.settle.specs.Chains.{link_at}
-use Rattle.settle.proofs.Chains.{chaining_none, chaining_more, limits_within, end_within}
+use Rattle.settle.proofs.Chains.{chaining_none, chaining_more, ends_within, end_within}
 use Rattle.settle.proofs.links.chain.Goals as goal
 
 pub loop-k-init : goal.loop-k-init
@@ -25,9 +25,9 @@ loop-k-preserved c =
     let at_end = c.from-stage.ensures ∙ c.end.ensures in
     let first = c.loop-k.first in
     let next = c.loop-k.next in
-    let within = limits_within lists.stages.now moves lists.limits in
-    let few = lists.limits.few_moves in
-    let few_stages = lists.limits.few_stages in
+    let within = ends_within lists.stages.now moves lists.joined in
+    let few = lists.joined.few_moves in
+    let few_stages = lists.joined.few_stages in
     let low : stage < most_stages =
     omega (arith, at_end, end_within end (length lists.stages.now) moves within k c.loop-k-test.true) in (
       chaining_more end moves k stage first next at_end (omega arith) (omega arith) low c.loop-k.invariant.0,

@@ -6,4 +6,4 @@ use Rattle.tally.proofs.rows.begin_row.Given as goal
 abbrev pub invariant-loop-s : goal.invariant-loop-s
 invariant-loop-s g l =
     let K = g.T.Tally.algebra in
-    (s : ℕ) → s < l.s → entry K l.entry-items s ≡ begins K (among l.walks.goals.now) s
+    (s : ℕ) → s < l.s → entry K l.entry-items s ≡ begins K (among l.goals) s

@@ -13,7 +13,7 @@ loop-m-init c =
     let chained = c.args.chained.now in
     let set = listed (stage_count chained) c.args.self.now in
     λ s h. ap (λ b. ltb 0 b or into any_move (map timed_move chained.lists.moves.now) set s)
-    (get_or-replicate most_stages s 0 0 (omega (arith, chained.lists.limits.few_stages)))
+    (get_or-replicate most_stages s 0 0 (omega (arith, chained.lists.joined.few_stages)))
 
 pub loop-m-preserved : goal.loop-m-preserved
 loop-m-preserved c =
