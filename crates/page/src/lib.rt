@@ -9,7 +9,7 @@ pub mod each_rule;
 pub mod faults;
 pub mod pages;
 
-ghost use Rattle.std.specs.Prelude.{IfOk};
+ghost use Rattle.std.specs.Prelude.{◌≡◌, IfOk, OnErr};
 ghost use Rattle.program.specs.Meaning.{empty};
 ghost use Rattle.page.specs.Whole.{full_room, AddsPage};
 
@@ -25,8 +25,9 @@ const MOVE_AREA: usize = 32768;
 
 // Appends the answers to a page, and says what was done. The one error is want of memory.
 pub fn answer(heap: Global, page: &[u8], out: &mut Vec<u8>) -> Result<Summary, AllocError>
-    ensures { IfOk result (λ summary. AddsPage full_room empty page.now
+    ensures answers { IfOk result (λ summary. AddsPage full_room empty page.now
         out.old.items out.new.items summary) }
+    ensures unchanged { OnErr result (out.new.items ≡ out.old.items) }
 {
     let stages = vec![in heap; 0u8; STAGE_AREA]?;
     let moves = vec![in heap; 0u8; MOVE_AREA]?;

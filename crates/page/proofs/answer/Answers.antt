@@ -5,8 +5,8 @@ use Rattle.stores.specs.InTray.{tray_room}
 use Rattle.page.specs.Whole.{full_room}
 use Rattle.page.proofs.answer.Goals as goal
 
-pub returns : goal.returns
-returns c =
+pub returns-clause-answers : goal.returns-clause-answers
+returns-clause-answers c =
     let tray = c.new-tray.result in
     let stages : room_for_stages (vec_len tray.areas.now.stages) ≡ most_stages =
     ap room_for_stages (c.new-tray.ensures.long.stages ∙ c.in_ok-stages.ensures.len) in
