@@ -21,7 +21,7 @@ pub struct ProgramCopy {
     pub ghost limits: { Limits (prog stages.items moves.items) },
 }
 
-// Asks for so many records, for each once.
+// Asks for so many records, for each once. A program is asked by number, so the loop counts.
 fn answers<T: Copy + Default, const N: usize, F: Fn(usize) -> T>(
     count: usize,
     ask: F,

@@ -8,7 +8,7 @@ use crate::links::Chained;
 use crate::removal::Removal;
 use program::Move;
 
-// Which moves count: any, or those that take no time.
+// Which moves count: any, or those that take no time. An enum and no closure, since clauses and definitions name it.
 #[derive(Clone, Copy, PartialEq, Eq, Debug)]
 pub enum Sort {
     Any,

@@ -7,7 +7,8 @@ use program::lists::Lists;
 use program::{End, MOST_MOVES, MOST_STAGES};
 
 // A link is the number of a move, or none where a chain ends. `first` has for each stage the link to its last move,
-// `next` for each move the link to the last move before it with the same end.
+// `next` for each move the link to the last move before it with the same end. Tables of links and no list a stage:
+// there is no heap here.
 #[derive(Drop)]
 pub struct Links {
     pub first: [Option<u16>; MOST_STAGES],

@@ -33,6 +33,7 @@ impl Told for Reach {
 impl<const LONGEST: bool> Told for Minutes<LONGEST> {
     ghost tells = { minutes_tell LONGEST };
 
+    // A guard and no `is_some_and`: the toolchain fails where a closure reads a const parameter that is a bool.
     fn told(self, minutes: u32) -> bool {
         match self.0 {
             Some(a) if LONGEST => minutes <= a,

@@ -1,6 +1,6 @@
-// Tallies: for each stage of a program, what sums up the walks from it to a goal. A walk is a list of moves, each leaving
-// the stage that the one before it enters. `tables::fill` is the call for any readable program. Rests on `program`,
-// and in its proofs on `tctl`.
+// Tallies: for each stage of a program, what sums up the walks from it to a goal. A walk is a list of moves, each
+// leaving the stage that the one before it enters. `tables::fill` is the call for any readable program. Rests on
+// `program`, and in its proofs on `tctl`.
 
 #![tactic(auto)]
 

@@ -53,6 +53,7 @@ impl Program for Schedule<'_> {
         2 * self.segments.len()
     }
 
+    // Here and below the segments are gone through with their index: the form that the project asks for.
     fn stage(&self, s: usize) -> Stage {
         for (i, segment) in self.segments.iter().enumerate() {
             if s == 2 * i {
