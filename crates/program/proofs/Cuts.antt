@@ -313,5 +313,6 @@ module _ (p : Prog) (tidy : Tidy p) (si : SilentAt p (last_stage p)) where
           → (move_at p i).minutes + (move_at p o).minutes ≤ most_minutes
       go h (there t) u = absurd (not_both p e (subst (λ x. (stage_at p x).kind ≡ Open) h t.1) si.1)
       go h (on x lx ex sx w ed) u =
-          let a : (move_at p x).minutes ≡ (move_at p o).minutes = ap (λ y. (move_at p y).minutes) (out_alone x lx (ex ∙ h)) in
+          let a : (move_at p x).minutes ≡ (move_at p o).minutes =
+          ap (λ y. (move_at p y).minutes) (out_alone x lx (ex ∙ h)) in
           omega arith

@@ -255,7 +255,8 @@ module _ (q p : Prog) (S : Split q p) where
               alone = λ x lx h.
                   ⊎_elim
                   (λ i.
-                  let a : (move_at p x).enters ≡ (move_at q k).enters = ap (λ y. (move_at p y).enters) i ∙ S.out_enters in
+                  let a : (move_at p x).enters ≡ (move_at q k).enters =
+                  ap (λ y. (move_at p y).enters) i ∙ S.out_enters in
                   let c = S.to k S.real_k in
                   absurd (omega arith))
                   (λ o.

@@ -34,7 +34,8 @@ cond_cap : (top : ℕ) (b : Bool) (u v u' v' : Entry) → u ≡ capped top u' �
 cond_cap top true u v u' v' e d = e
 cond_cap top false u v u' v' e d = d
 
-over_cuts : (top : ℕ) (k : Kind) (was was' : List Entry) → ((s : ℕ) → get_or was s none ≡ capped top (get_or was' s none))
+over_cuts : (top : ℕ) (k : Kind) (was was' : List Entry)
+    → ((s : ℕ) → get_or was s none ≡ capped top (get_or was' s none))
     → (s : ℕ) (ms : List Move) → over_cap top k ms was s ≡ capped top (over k ms was' s)
 over_cuts top k was was' h s [] = refl
 over_cuts top k was was' h s (m ∷ ms) =

@@ -23,7 +23,8 @@ put m w zero = m
 put m w (suc i) = w i
 
 -- a move, and then a run
-abbrev pub before : (p : Graph) (m s : ℕ) → m < count p → (move_at p m).leaves ≡ s → Run p (move_at p m).enters → Run p s
+abbrev pub before : (p : Graph) (m s : ℕ) → m < count p → (move_at p m).leaves ≡ s → Run p (move_at p m).enters
+    → Run p s
 before p m s l e r = record { way = put m r.way; real = real; starts = e; joined = joined }
   where
     real : (i : ℕ) → put m r.way i < count p

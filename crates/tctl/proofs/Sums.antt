@@ -35,6 +35,7 @@ module _ (weight : Move → ℕ) (p : Graph) where
   pub sum_same : (i : ℕ) (u v : ℕ → ℕ) → ((j : ℕ) → j < i → u j ≡ v j) → sum_on weight p i u ≡ sum_on weight p i v
   sum_same zero u v h = refl
   sum_same (suc i) u v h =
-      let a : weight (move_at p (u 0)) ≡ weight (move_at p (v 0)) = ap (λ m. weight (move_at p m)) (h 0 (omega arith)) in
+      let a : weight (move_at p (u 0)) ≡ weight (move_at p (v 0)) =
+      ap (λ m. weight (move_at p m)) (h 0 (omega arith)) in
       let b = sum_same i (λ j. u (suc j)) (λ j. v (suc j)) (λ j l. h (suc j) (omega arith)) in
       omega arith

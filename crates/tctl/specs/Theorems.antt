@@ -30,7 +30,8 @@ TestRight = (p : Graph) → T (sound? p) ↔ Sound p
 abbrev pub CapCuts : Type 0
 CapCuts =
     (top : ℕ) (p : Graph) (k : Kind) (pass goals : List Bool) (i s : ℕ)
-    → slice_index_or (tally_cap top p k pass goals i) s none ≡ capped top (slice_index_or (tally p k pass goals i) s none)
+    → slice_index_or (tally_cap top p k pass goals i) s none
+    ≡ capped top (slice_index_or (tally p k pass goals i) s none)
 
 -- The same, of the weaker relation.
 abbrev pub MakingKeeps : Type 0

@@ -12,7 +12,8 @@ use Rattle.checker.proofs.rows.check_rows.Goals as goal
 pub returns-in-Some-still_stage-clause-does : goal.returns-in-Some-still_stage-clause-does
 returns-in-Some-still_stage-clause-does c =
     let found = subst (λ (l : Lists). (c.in-Some-still_stage.s < length l.stages.now)
-    × Cycle (prog l.stages.now l.moves.now) c.in-Some-still_stage.s) c.of-chained.ensures c.in-Some-still_stage.ensures in
+    × Cycle (prog l.stages.now l.moves.now) c.in-Some-still_stage.s) c.of-chained.ensures
+    c.in-Some-still_stage.ensures in
     ((c.in_default.ensures, found.0, found.1), refl)
 
 pub returns-then-not-has_room-clause-does : goal.returns-then-not-has_room-clause-does
