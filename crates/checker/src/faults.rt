@@ -21,7 +21,8 @@ pub enum CheckFault {
 }
 
 impl CheckFault {
-    // The number of the refusal, the part that it lies in, and the stage that it names, or 0.
+    // The number of the refusal, the part that it lies in, and the stage that it names, or 0: plain numbers, the form
+    // that the project asks for.
     pub fn plain(self) -> (u8, u8, usize)
         ensures number { result.0 ≡ fault_number self }
         ensures part { result.1 ≡ fault_part self }

@@ -21,7 +21,7 @@ const MOVE_AREA: usize = 8 * MOST_MOVES;
 const ENTRIES: usize = 4 * MOST_STAGES;
 
 // Why there is no number of lines to tell.
-#[derive(Clone, Copy, PartialEq, Debug)]
+#[derive(Clone, Copy, PartialEq, Eq, Debug)]
 enum Refusal {
     Edit(EditFault),
     Check(CheckFault),
