@@ -4,8 +4,6 @@ ghost use Rattle.checker.specs.declared.faults.CheckFault.TheVariants.{Text};
 ghost use Rattle.checker.specs.Faults.{fault_number, fault_part, fault_stage};
 
 use reader::ReadFault;
-use std::error::Error;
-use std::fmt;
 
 #[derive(Clone, Copy, PartialEq, Eq, Debug)]
 pub enum CheckFault {
@@ -46,19 +44,3 @@ impl From<ReadFault> for CheckFault {
         CheckFault::Text(fault)
     }
 }
-
-impl fmt::Display for CheckFault {
-    fn fmt<W: fmt::Write>(&self, f: &mut fmt::Formatter<W>) -> fmt::Result {
-        match self {
-            CheckFault::Text(fault) => write!(f, "{fault}"),
-            CheckFault::NoStage => write!(f, "the program has no stage"),
-            CheckFault::DeadEnd(s) => write!(f, "no move leaves stage {s}"),
-            CheckFault::StillCycle(s) => {
-                write!(f, "stage {s} is on a cycle of moves that take no time")
-            }
-            CheckFault::ShortMemory => write!(f, "the sheet or a table is too short"),
-        }
-    }
-}
-
-impl Error for CheckFault {}

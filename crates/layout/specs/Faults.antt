@@ -1,5 +1,5 @@
--- The plain numbers of the refusal of a page.
-use Rattle.std.specs.Prelude.{ℕ}
+-- The plain numbers of the refusal of a page, and its words.
+use Rattle.std.specs.Prelude.{ℕ, List, ◌++◌, codes, decimal}
 use Rattle.program.specs.Edits as edits
 use Rattle.layout.specs.declared.faults.PageFault.{PageFault}
 use Rattle.layout.specs.declared.faults.PageFault.TheVariants.{TooLong, OutOfForm, Edit}
@@ -14,3 +14,8 @@ abbrev pub fault_line : PageFault → ℕ
 fault_line TooLong = 0
 fault_line (OutOfForm line) = line
 fault_line (Edit line fault) = line
+
+abbrev pub fault_text : PageFault → List ℕ
+fault_text TooLong = codes "it has more than " ++ (decimal 16384 ++ codes " bytes")
+fault_text (OutOfForm line) = codes "line " ++ (decimal line ++ codes " is out of form")
+fault_text (Edit line fault) = codes "at line " ++ (decimal line ++ (codes ", " ++ edits.fault_text fault))

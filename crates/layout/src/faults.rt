@@ -1,6 +1,6 @@
 // Why a page is refused.
-ghost use Rattle.std.specs.Prelude.{◌≡◌};
-ghost use Rattle.layout.specs.Faults.{fault_number, fault_line};
+ghost use Rattle.std.specs.Prelude.{◌≡◌, Some};
+ghost use Rattle.layout.specs.Faults.{fault_number, fault_line, fault_text};
 
 use crate::loading::MOST_BYTES;
 use program::EditFault;
@@ -44,6 +44,8 @@ impl PageFault {
 }
 
 impl fmt::Display for PageFault {
+    ghost output = { λ e. Some (fault_text e) };
+
     fn fmt<W: fmt::Write>(&self, f: &mut fmt::Formatter<W>) -> fmt::Result {
         match self {
             PageFault::TooLong => write!(f, "it has more than {MOST_BYTES} bytes"),

@@ -10,7 +10,8 @@ use layout::loading::load;
 use program::Store;
 use std::alloc::AllocError;
 
-// What was done with a page.
+// What was done with a page. No Result of its own: in the one that want of memory needs, it would read as an error of
+// the call, and a page that is refused is answered too.
 #[derive(Clone, Copy, PartialEq, Eq, Debug)]
 pub enum Summary {
     // its rules were answered

@@ -1,6 +1,6 @@
 -- The edits of a store, each as a step on the two lists: its refusals in their order, its answer, and what it leaves.
 use Rattle.std.specs.Prelude.{◌≡◌, ℕ, suc, ◌+◌, ◌-◌, Bool, true, false, cond, eqb, List, [], ◌∷◌, ◌++◌, length, take}
-use Rattle.std.specs.Prelude.{set, Ok, Err, Result, nat_le, nat_lt}
+use Rattle.std.specs.Prelude.{set, Ok, Err, Result, nat_le, nat_lt, codes, decimal}
 use Rattle.std.specs.List.{remove}
 use Rattle.program.specs.declared.Kind.{Kind}
 use Rattle.program.specs.declared.Kind.TheVariants.{Open, Silent}
@@ -24,6 +24,16 @@ fault_number TooLong = 4
 fault_number StagesFull = 5
 fault_number MovesFull = 6
 fault_number NothingToJoin = 7
+
+-- What is printed of each refusal.
+abbrev pub fault_text : EditFault → List ℕ
+fault_text NoStage = codes "there is no such stage"
+fault_text SilentStage = codes "the stage is silent"
+fault_text NoMove = codes "there is no such move"
+fault_text TooLong = codes "the move takes more than " ++ (decimal most_minutes ++ codes " minutes")
+fault_text StagesFull = codes "there are too many stages"
+fault_text MovesFull = codes "there are too many moves"
+fault_text NothingToJoin = codes "the last stage is not a silent one"
 
 -- An answer, and the program after it.
 pub record Out : Type 0 where

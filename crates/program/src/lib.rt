@@ -3,9 +3,10 @@
 
 #![tactic(auto)]
 
-ghost use Rattle.std.specs.Prelude.{◌≡◌, ℕ, ◌≤◌, length};
+ghost use Rattle.std.specs.Prelude.{◌≡◌, ℕ, ◌≤◌, length, Some};
 ghost use Rattle.program.specs.Meaning.{Prog, Limits, stage_at, move_at, most_stages, most_moves};
-ghost use Rattle.program.specs.Edits.{Caps, Does, open_step, mark_step, lay_step, cut_step, join_step, fault_number};
+ghost use Rattle.program.specs.Edits.{Caps, Does, open_step, mark_step, lay_step, cut_step, join_step};
+ghost use Rattle.program.specs.Edits.{fault_number, fault_text};
 ghost use Rattle.program.specs.Tidy.{Tidy, StaysTidy};
 ghost use Rattle.program.specs.Ends.{end_of};
 
@@ -93,22 +94,24 @@ impl EditFault {
 }
 
 impl fmt::Display for EditFault {
+    ghost output = { λ e. Some (fault_text e) };
+
     fn fmt<W: fmt::Write>(&self, f: &mut fmt::Formatter<W>) -> fmt::Result {
-        f.write_str(match self {
-            EditFault::NoStage => "there is no such stage",
-            EditFault::SilentStage => "the stage is silent",
-            EditFault::NoMove => "there is no such move",
-            EditFault::TooLong => "the move takes more than 10080 minutes",
-            EditFault::StagesFull => "there are too many stages",
-            EditFault::MovesFull => "there are too many moves",
-            EditFault::NothingToJoin => "the last stage is not a silent one",
-        })
+        match self {
+            EditFault::NoStage => write!(f, "there is no such stage"),
+            EditFault::SilentStage => write!(f, "the stage is silent"),
+            EditFault::NoMove => write!(f, "there is no such move"),
+            EditFault::TooLong => write!(f, "the move takes more than {MOST_MINUTES} minutes"),
+            EditFault::StagesFull => write!(f, "there are too many stages"),
+            EditFault::MovesFull => write!(f, "there are too many moves"),
+            EditFault::NothingToJoin => write!(f, "the last stage is not a silent one"),
+        }
     }
 }
 
 impl Error for EditFault {}
 
-// What a stage or a move not below the count is answered as.
+// What a stage or a move not below the count is answered as: an answer and no Option, which the project asks for.
 pub const NO_STAGE: Stage = Stage {
     marks: 0,
     kind: Kind::Open,
@@ -140,7 +143,8 @@ pub trait Program {
 }
 
 // A store: a program that can be edited in place. It adds two capacities, fixed when it is made. Each edit promises
-// that it does what its step says, that a tidy program stays tidy, and that the capacities are kept.
+// that it does what its step says, that a tidy program stays tidy, and that the capacities are kept: at each edit, and
+// by no law of the trait, which the project asks for.
 pub trait Store: Program {
     ghost room: { Self → Caps };
 

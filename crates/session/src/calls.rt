@@ -2,8 +2,6 @@
 use checker::CheckFault;
 use program::EditFault;
 use program::edit::Edit;
-use std::error::Error;
-use std::fmt;
 
 // An edit, or a check of a rule by its text.
 #[derive(Clone, PartialEq, Eq, Debug, Drop)]
@@ -31,11 +29,3 @@ pub enum Answer {
 pub struct OutOfMemory {
     pub answers: Vec<Answer>,
 }
-
-impl fmt::Display for OutOfMemory {
-    fn fmt<W: fmt::Write>(&self, f: &mut fmt::Formatter<W>) -> fmt::Result {
-        write!(f, "out of memory; calls answered: {}", self.answers.len())
-    }
-}
-
-impl Error for OutOfMemory {}

@@ -8,7 +8,8 @@ use crate::links::Chained;
 use crate::removal::Removal;
 use program::Move;
 
-// Which moves count: any, or those that take no time. An enum and no closure, since clauses and definitions name it.
+// Which moves count: any, or those that take no time. An enum and no closure, which would
+// be no plainer: each clause would say of the closure which of these two it computes.
 #[derive(Clone, Copy, PartialEq, Eq, Debug)]
 pub enum Sort {
     Any,

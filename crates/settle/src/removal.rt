@@ -15,7 +15,7 @@ use program::{MOST_STAGES, Move};
 
 // `watched` has for each stage the link to the move that it watches. The stages that are gone stand in `gone`; at the
 // first `done` the moves that enter have been looked at.
-// The set stays a parameter: with the set lent to this struct the proof of `watch` didn't close.
+// Sort, chained and set stay parameters: with the three in this struct, the set lent, the proof of `watch` did not close.
 #[derive(Drop)]
 pub struct Removal {
     watched: [Option<u16>; MOST_STAGES],

@@ -8,7 +8,7 @@ use program::{Kind, MOST_STAGES, Move};
 use settle::endless::{Sort, keep_endless};
 use settle::links::Chained;
 
-// A stage is in the set where its word is not 0.
+// A stage is in the set where its word is not 0: words, as the tables are filled from rows of words.
 #[derive(Clone, Copy)]
 pub(crate) struct StageSet {
     pub words: [u32; MOST_STAGES],

@@ -19,6 +19,7 @@ pub fn begin_row<T: Tally>(at: usize, n: usize, goals: &[u32], table: &mut [T])
     ensures below { KeptBelow T.Tally.algebra at table.old table.new }
     ensures above { KeptFrom T.Tally.algebra (at + n) table.old table.new }
 {
+    // By the index, since after `iter_mut().zip(..)` a proof knows nothing of the entries.
     for (s, entry) in table[at..at + n].iter_mut().enumerate() {
         *entry = if goals[s] > 0 { T::start() } else { T::none() };
     }
@@ -80,6 +81,7 @@ pub fn clear<T: Tally>(first: usize, end: usize, table: &mut [T])
     ensures below { KeptBelow T.Tally.algebra first table.old table.new }
     ensures above { KeptFrom T.Tally.algebra end table.old table.new }
 {
+    // A loop: a call of `fill_with` with a function of T is one that the borrow checker does not cover.
     for entry in table[first..end].iter_mut() {
         *entry = T::none();
     }

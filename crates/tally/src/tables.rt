@@ -7,8 +7,6 @@ use crate::rows::tallies;
 use crate::walks::Walks;
 use program::Program;
 use program::lists::ProgramCopy;
-use std::error::Error;
-use std::fmt;
 
 // Why a table is not filled, by the number of the refusal.
 #[derive(Clone, Copy, PartialEq, Eq, Debug)]
@@ -25,14 +23,6 @@ impl TallyFault {
         self as u8
     }
 }
-
-impl fmt::Display for TallyFault {
-    fn fmt<W: fmt::Write>(&self, f: &mut fmt::Formatter<W>) -> fmt::Result {
-        f.write_str("a set or the table is too short")
-    }
-}
-
-impl Error for TallyFault {}
 
 // For each stage the choice over all walks of at most k moves to a goal whose stages before the last are in the set to
 // pass: in the first entries of the table, an entry a stage.

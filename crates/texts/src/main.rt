@@ -9,11 +9,15 @@ use itertools::Itertools;
 use std::alloc::{AllocError, Global};
 use std::{env, fs};
 
-// The value of a hexadecimal digit, 0 of any other byte.
+// The value of a hexadecimal digit in lower case, 0 of any other byte; `to_digit` would read upper case too.
 fn hex(digit: u8) -> u8
     ensures { result < 16 }
 {
-    char::from(digit).to_digit(16).unwrap_or(0) as u8
+    match digit {
+        b'0'..=b'9' => digit - b'0',
+        b'a'..=b'f' => digit - b'a' + 10,
+        _ => 0,
+    }
 }
 
 fn unescape(heap: Global, line: &[u8]) -> Result<Vec<u8>, AllocError> {

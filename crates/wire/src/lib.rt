@@ -1,4 +1,5 @@
-// The check on a program given as plain numbers, in one call. `wire_c` offers it to C.
+// The check on a program given as plain numbers, in one call. `wire_c` offers it to C, and is a crate of its own, since a
+// static library is none that Rattle crates can call. What the call is given goes along whole, as the C interface has it.
 
 #![tactic(auto)]
 
@@ -17,7 +18,7 @@ const STAGE_AREA: usize = 4 * MOST_STAGES;
 
 const MOVE_AREA: usize = 8 * MOST_MOVES;
 
-// The entries of a table: four a stage.
+// The entries of a table: four a stage. (A desk of the checker would not serve: the sheet is the caller's.)
 const ENTRIES: usize = 4 * MOST_STAGES;
 
 // Why there is no number of lines to tell.

@@ -8,7 +8,7 @@ pub const CARD_STAGES: usize = 64;
 
 pub const CARD_MOVES: usize = 256;
 
-// A plain struct and no vector of a crate: a card has its records in itself, and `mark` lends one of them.
+// A plain struct and no vector of a crate, of which `mark` lends a record: the form that the project asks for.
 #[derive(Drop)]
 pub(crate) struct Table<T: Copy, const N: usize> {
     count: usize,

@@ -39,6 +39,7 @@ impl Record<STAGE_BYTES> for Stage {
         let [low, high, kind, _] = *bytes;
         Stage {
             marks: u16::from_le_bytes([low, high]),
+            // Any byte is read, so `TryFrom` would have nothing to refuse.
             kind: match kind {
                 0 => Kind::Open,
                 _ => Kind::Silent,
