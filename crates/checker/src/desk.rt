@@ -3,7 +3,7 @@ ghost use Rattle.std.specs.Prelude.{◌≡◌, ◌*◌, length};
 ghost use Rattle.program.specs.Meaning.{most_stages};
 ghost use Rattle.checker.specs.Outcomes.{Enough};
 ghost use Rattle.checker.specs.Checks.{Check};
-ghost use Rattle.checker.specs.Desks.{on_desk};
+ghost use Rattle.checker.specs.Desks.{on_desk, blank_desk};
 
 use crate::faults::CheckFault;
 use crate::run::check;
@@ -25,7 +25,8 @@ pub struct Desk {
 
 impl Desk {
     pub fn new() -> Desk
-        ensures { Enough most_stages (on_desk result) }
+        ensures enough { Enough most_stages (on_desk result) }
+        ensures blank { on_desk result ≡ blank_desk }
     {
         Desk {
             sheet: [0; MOST_STAGES],
