@@ -1,15 +1,14 @@
-use Rattle.std.proofs.Common.{ℕ, ◌<◌, length, Option, Some, None, replicate, ◌∙◌, arith}
+use Rattle.std.proofs.Common.{ℕ, ◌<◌, Option, Some, None, replicate, ◌∙◌, arith}
 use Rattle.std.proofs.lemmas.List.{get_or-replicate, length-replicate, length-set}
 use Rattle.program.specs.Meaning.{most_stages, most_moves}
 use Rattle.settle.specs.Chains.{link_at}
-use Rattle.settle.proofs.Chains.{chaining_none, chaining_more, ends_within, end_within}
+use Rattle.settle.proofs.Chains.{chaining_none, chaining_more, end_within}
 use Rattle.settle.proofs.links.chain.Goals as goal
 
 pub loop-k-init : goal.loop-k-init
 loop-k-init c =
-    let lists = c.args.lists.now in
     let none : Option ℕ = None in (
-      chaining_none c.args.end lists.moves.now (replicate most_stages none) (replicate most_moves none)
+      chaining_none c.args.end c.args.moves.now (replicate most_stages none) (replicate most_moves none)
           (λ i l. get_or-replicate most_stages i none none l),
       length-replicate most_stages none,
       length-replicate most_moves none,
@@ -17,19 +16,17 @@ loop-k-init c =
 
 pub loop-k-preserved : goal.loop-k-preserved
 loop-k-preserved c =
-    let lists = c.args.lists.now in
     let end = c.args.end in
-    let moves = lists.moves.now in
+    let moves = c.args.moves.now in
     let k = c.loop-k.k in
     let stage = c.from-stage.result in
     let at_end = c.from-stage.ensures ∙ c.end.ensures in
     let first = c.loop-k.first in
     let next = c.loop-k.next in
-    let within = ends_within lists.stages.now moves lists.joined in
-    let few = lists.joined.few_moves in
-    let few_stages = lists.joined.few_stages in
+    let few = c.requires.moves in
+    let few_stages = c.requires.stages in
     let low : stage < most_stages =
-    omega (arith, at_end, end_within end (length lists.stages.now) moves within k c.loop-k-test.true) in (
+    omega (arith, at_end, end_within end c.args.stages moves c.requires.within k c.loop-k-test.true) in (
       chaining_more end moves k stage first next at_end (omega arith) (omega arith) low c.loop-k.invariant.0,
       length-set first stage (Some k) ∙ c.loop-k.invariant.1,
       length-set next k (link_at first stage) ∙ c.loop-k.invariant.2,

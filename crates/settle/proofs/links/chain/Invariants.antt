@@ -5,6 +5,6 @@ use Rattle.settle.proofs.links.chain.Given as goal
 
 abbrev pub invariant-loop-k : goal.invariant-loop-k
 invariant-loop-k l =
-    Chaining l.end l.lists.moves.now l.k l.first l.next
+    Chaining l.end l.moves l.k l.first l.next
     × (length l.first ≡ most_stages)
     × (length l.next ≡ most_moves)
