@@ -10,7 +10,7 @@ use crate::faults::CheckFault;
 use crate::tests::{dead_end, still_stage};
 use program::lists::Lists;
 use rules::line::Line;
-use settle::links::Chained;
+use sheet::paths::Paths;
 use sheet::sheets::check_lines;
 use sheet::tables::Tables;
 
@@ -45,13 +45,13 @@ pub(crate) fn check_rows(
     if let Some(s) = dead_end(lists.stages, lists.moves) {
         return Err(CheckFault::DeadEnd(s));
     }
-    let chained = Chained::of(*lists);
-    if let Some(s) = still_stage(&chained) {
+    let paths = Paths::of(lists.stages, lists.moves);
+    if let Some(s) = still_stage(&paths) {
         return Err(CheckFault::StillCycle(s));
     }
     if !has_room(n, sheet, tables) {
         return Err(CheckFault::ShortMemory);
     }
-    check_lines(&chained, lines, sheet, tables);
+    check_lines(&paths, lines, sheet, tables);
     Ok(lines.len())
 }

@@ -7,8 +7,8 @@ ghost use Rattle.tally.specs.Rounds.{Within};
 ghost use Rattle.checker.specs.Found.{DeadFound, CycleFound, Found, meets, ahead, steps};
 
 use program::{MOST_STAGES, Move, Stage};
-use settle::endless::{Sort, keep_endless};
-use settle::links::Chained;
+use settle::endless::Sort;
+use sheet::paths::Paths;
 
 // The lowest stage that no move leaves.
 pub fn dead_end(stages: &[Stage], moves: &[Move]) -> Option<usize>
@@ -68,13 +68,12 @@ fn follow(n: usize, moves: &[Move], set: &[u32], s: usize) -> usize
 }
 
 // A stage on a cycle of moves that take no time.
-pub(crate) fn still_stage(chained: &Chained) -> Option<usize>
-    ensures { CycleFound (prog chained.now.lists.stages.now chained.now.lists.moves.now) result }
+pub(crate) fn still_stage(paths: &Paths) -> Option<usize>
+    ensures { CycleFound (prog paths.now.stages.now paths.now.moves.now) result }
 {
-    let lists = chained.lists;
-    let n = lists.stages.len();
+    let n = paths.stages.len();
     let mut set = [1u32; MOST_STAGES];
-    keep_endless(Sort::Still, chained, &mut set);
+    paths.keep_endless(Sort::Still, &mut set);
     let first = first_in(n, &set)?;
-    Some(follow(n, lists.moves, &set, first))
+    Some(follow(n, paths.moves, &set, first))
 }
