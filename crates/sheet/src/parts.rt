@@ -55,12 +55,12 @@ fn thin(n: usize, has: &[u32], set: &mut [u32]) -> bool
     ensures told { result ≡ true → Says n set.old (among set.new) }
 {
     let mut unchanged = true;
-    for s in 0..n {
+    for (s, word) in set[..n].iter_mut().enumerate() {
         if has[s] == 0 {
-            if set[s] > 0 {
+            if *word > 0 {
                 unchanged = false;
             }
-            set[s] = 0;
+            *word = 0;
         }
     }
     unchanged

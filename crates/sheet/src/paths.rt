@@ -40,15 +40,17 @@ impl<'a> Paths<'a> {
         ensures stages { result.stages ≡ stages.entry }
         ensures moves { result.moves ≡ moves.entry }
     {
-        let chained = if moves.len() <= MOST_MOVES {
-            Some(Chained::of(stages.len(), moves))
-        } else {
-            None
-        };
+        if moves.len() > MOST_MOVES {
+            return Paths {
+                stages,
+                moves,
+                chained: None,
+            };
+        }
         Paths {
             stages,
             moves,
-            chained,
+            chained: Some(Chained::of(stages.len(), moves)),
         }
     }
 

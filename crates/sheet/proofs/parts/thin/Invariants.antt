@@ -7,6 +7,6 @@ use Rattle.sheet.proofs.parts.thin.Given as goal
 
 abbrev pub invariant-loop-s : goal.invariant-loop-s
 invariant-loop-s l =
-    Says l.s l.set (λ s. among l.initial.set s and among l.has s)
-    × RestKept l.s l.initial.set l.set
-    × (l.unchanged ≡ true → Says l.s l.initial.set (among l.set))
+    Says l.s l.word-items (λ s. among l.initial.word-items s and among l.has s)
+    × RestKept l.s l.initial.word-items l.word-items
+    × (l.unchanged ≡ true → Says l.s l.initial.word-items (among l.word-items))
