@@ -42,7 +42,7 @@ struct ChainedWalks<'w, 'c, 'l> {
     walks: Walks<'w>,
     chained: &'c Chained<'l>,
     ghost stages: { walks.stages ≡ chained.now.stages },
-    ghost linked: { Linked Enters walks.stages walks.moves.now chained.now.chains.enters },
+    ghost linked: { Linked Enters walks.stages walks.moves.now chained.now.chains.now.enters },
 }
 
 // Sets the words of the goals that are to be passed to 0.

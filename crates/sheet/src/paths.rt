@@ -1,11 +1,11 @@
-// What a check goes along: stages, and any number of moves, which are chained where a program may have so many.
+// What a check goes along: stages, and any number of moves, which are chained where that pays.
 ghost use Rattle.std.specs.Prelude.{◌≡◌, ◌≤◌, length, Some};
 ghost use Rattle.program.specs.Meaning.{most_stages};
 ghost use Rattle.tally.specs.Rounds.{Within};
 ghost use Rattle.settle.specs.declared.links.Chained.{Chained};
 
 use crate::parts;
-use program::{MOST_MOVES, MOST_STAGES, Move, Stage};
+use program::{MOST_STAGES, Move, Stage};
 use settle::endless::{Sort, keep_endless};
 use settle::links::Chained;
 use settle::table::tally_all;
@@ -13,8 +13,8 @@ use tally::Tally;
 use tally::rows::tallies;
 use tally::walks::Walks;
 
-// Where there are more moves than chains can number, rounds do what the chains are for, and take longer.
-#[derive(Drop)]
+// Without chains, rounds do what the chains are for: for any number of moves, and sooner where there are few.
+#[derive(Clone, Copy)]
 pub struct Paths<'a> {
     pub stages: &'a [Stage],
     pub moves: &'a [Move],
@@ -34,23 +34,30 @@ impl<'a> Paths<'a> {
     ghost use Rattle.settle.specs.Rows.{row, RestKept, sort_of};
     ghost use Rattle.settle.specs.Tended.{Settles};
 
+    // Without chains.
     pub fn of(stages: &'a [Stage], moves: &'a [Move]) -> Paths<'a>
         requires few { length stages.now ≤ most_stages }
         requires within { Within (length stages.now) moves.now }
         ensures stages { result.stages ≡ stages.entry }
         ensures moves { result.moves ≡ moves.entry }
     {
-        if moves.len() > MOST_MOVES {
-            return Paths {
-                stages,
-                moves,
-                chained: None,
-            };
-        }
         Paths {
             stages,
             moves,
-            chained: Some(Chained::of(stages.len(), moves)),
+            chained: None,
+        }
+    }
+
+    // With the moves chained.
+    pub fn along(stages: &'a [Stage], chained: Chained<'a>) -> Paths<'a>
+        requires { chained.stages ≡ length stages.now }
+        ensures stages { result.stages ≡ stages.entry }
+        ensures moves { result.moves ≡ chained.entry.moves }
+    {
+        Paths {
+            stages,
+            moves: chained.moves,
+            chained: Some(chained),
         }
     }
 

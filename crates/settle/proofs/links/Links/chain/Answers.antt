@@ -1,17 +1,16 @@
-use Rattle.std.proofs.Common.{ℕ, ◌<◌, Option, Some, None, replicate, ◌∙◌, arith}
-use Rattle.std.proofs.lemmas.List.{get_or-replicate, length-replicate, length-set}
-use Rattle.program.specs.Meaning.{most_stages, most_moves}
+use Rattle.std.proofs.Common.{◌<◌, Some, ◌∙◌, rules, arith}
+use Rattle.std.proofs.lemmas.List.{length-set}
+use Rattle.program.specs.Meaning.{most_stages}
 use Rattle.settle.specs.Chains.{link_at}
 use Rattle.settle.proofs.Chains.{chaining_none, chaining_more, end_within}
-use Rattle.settle.proofs.links.chain.Goals as goal
+use Rattle.settle.proofs.links.Links.chain.Goals as goal
 
 pub loop-k-init : goal.loop-k-init
 loop-k-init c =
-    let none : Option ℕ = None in (
-      chaining_none c.args.end c.args.moves.now (replicate most_stages none) (replicate most_moves none)
-          (λ i l. get_or-replicate most_stages i none none l),
-      length-replicate most_stages none,
-      length-replicate most_moves none,
+    let links = c.args.self.now in (
+      chaining_none c.args.end c.args.moves.now links.first links.next c.requires.none,
+      search rules,
+      search rules,
     )
 
 pub loop-k-preserved : goal.loop-k-preserved
@@ -21,8 +20,8 @@ loop-k-preserved c =
     let k = c.loop-k.k in
     let stage = c.from-stage.result in
     let at_end = c.from-stage.ensures ∙ c.end.ensures in
-    let first = c.loop-k.first in
-    let next = c.loop-k.next in
+    let first = c.loop-k.self.first in
+    let next = c.loop-k.self.next in
     let few = c.requires.moves in
     let few_stages = c.requires.stages in
     let low : stage < most_stages =
