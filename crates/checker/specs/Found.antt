@@ -1,8 +1,8 @@
 -- What the tests of a program and of the memory find.
 use Rattle.std.specs.Prelude.{◌≡◌, ℕ, zero, suc, ◌*◌, ◌<◌, Bool, true, false, cond, List, [], ◌∷◌, length, Some, None}
-use Rattle.std.specs.Prelude.{Option, ◌==◌, nat_le}
+use Rattle.std.specs.Prelude.{Option, ◌==◌, nat_le, slice_index_or}
 use Rattle.program.specs.declared.Move.{Move}
-use Rattle.program.specs.Meaning.{Prog}
+use Rattle.program.specs.Meaning.{Prog, no_move}
 use Rattle.program.specs.Graphs.{timed_move}
 use Rattle.tctl.specs.Checker.{still, ◌and◌}
 use Rattle.checker.specs.Outcomes.{Memory, AllOnward, IsDeadEnd, Cycle}
@@ -11,6 +11,10 @@ use Rattle.checker.specs.Outcomes.{Memory, AllOnward, IsDeadEnd, Cycle}
 abbrev pub DeadFound : Prog → Option ℕ → Type 0
 DeadFound p (Some s) = IsDeadEnd p s
 DeadFound p None = AllOnward p
+
+-- One of the first k moves leaves s.
+abbrev pub LeftBefore : List Move → ℕ → ℕ → Type 0
+LeftBefore moves k s = (m : ℕ) × (m < k) × ((slice_index_or moves m no_move).leaves ≡ s)
 
 -- A stage on a cycle of moves that take no time, or there is none.
 abbrev pub CycleFound : Prog → Option ℕ → Type 0

@@ -1,16 +1,18 @@
 // The check of lines on the lists of a program, after the two tests of the program and that of the memory.
-ghost use Rattle.std.specs.Prelude.{◌≡◌, ◌≤◌, length};
+ghost use Rattle.std.specs.Prelude.{◌≡◌, ◌<◌, ◌≤◌, length, None};
 ghost use Rattle.program.specs.Meaning.{most_stages, prog};
 ghost use Rattle.rules.specs.Lines.{most_lines, WellFormed};
 ghost use Rattle.sheet.specs.Tables.{SameSlices};
 ghost use Rattle.checker.specs.Outcomes.{held, Outcome};
-ghost use Rattle.checker.specs.Found.{enough?};
+ghost use Rattle.checker.specs.Found.{enough?, DeadFound};
 
 use crate::faults::CheckFault;
 use crate::tests::{dead_end, still_stage};
+use program::Move;
 use program::lists::Lists;
 use rules::line::Line;
-use settle::links::Chained;
+use settle::links::{Chained, Chains};
+use sheet::paths::Paths;
 use sheet::sheets::check_lines;
 use sheet::tables::Tables;
 
@@ -23,6 +25,66 @@ fn has_room(n: usize, sheet: &[u32], tables: &Tables) -> bool
         && 4 * n <= tables.reached.len()
         && 4 * n <= tables.shortest.len()
         && 4 * n <= tables.longest.len()
+}
+
+// The check of lines along paths, of stages that each have a move out.
+fn check_paths(
+    paths: &Paths,
+    lines: &[Line],
+    sheet: &mut [u32],
+    tables: &mut Tables,
+) -> Result<usize, CheckFault>
+    requires some { 0 < length paths.now.stages.now }
+    requires onward { DeadFound (prog paths.now.stages.now paths.now.moves.now) None }
+    requires lines { length lines.now ≤ most_lines }
+    requires formed { WellFormed lines.now }
+    ensures does { Outcome (prog paths.now.stages.now paths.now.moves.now) lines.now
+        (held sheet.old tables.old) (held sheet.new tables.new) result }
+    ensures slices { SameSlices tables.old tables.new }
+{
+    if let Some(s) = still_stage(paths) {
+        return Err(CheckFault::StillCycle(s));
+    }
+    if !has_room(paths.stages.len(), sheet, tables) {
+        return Err(CheckFault::ShortMemory);
+    }
+    check_lines(paths, lines, sheet, tables);
+    Ok(lines.len())
+}
+
+// The check of lines along chained moves.
+fn check_chained(
+    lists: &Lists,
+    lines: &[Line],
+    sheet: &mut [u32],
+    tables: &mut Tables,
+) -> Result<usize, CheckFault>
+    requires some { 0 < length lists.now.stages.now }
+    requires onward { DeadFound (prog lists.now.stages.now lists.now.moves.now) None }
+    requires lines { length lines.now ≤ most_lines }
+    requires formed { WellFormed lines.now }
+    ensures does { Outcome (prog lists.now.stages.now lists.now.moves.now) lines.now
+        (held sheet.old tables.old) (held sheet.new tables.new) result }
+    ensures slices { SameSlices tables.old tables.new }
+{
+    let stages = lists.stages.len();
+    let chains = Chains::of(stages, lists.moves);
+    let chained = Chained {
+        stages,
+        moves: lists.moves,
+        chains: &chains,
+    };
+    check_paths(&Paths::along(lists.stages, chained), lines, sheet, tables)
+}
+
+// So few moves are gone over again and again in less time than it takes to chain them.
+const FEW_MOVES: usize = 24;
+
+// Whether chains pay: moves are many, and an until, or the search for a cycle of moves that take no time, goes along them.
+fn chains_pay(moves: &[Move], lines: &[Line]) -> bool {
+    moves.len() > FEW_MOVES
+        && (lines.iter().any(|line| matches!(line, Line::Until { .. }))
+            || moves.iter().any(|m| m.minutes == 0))
 }
 
 // The check of lines, each of which may stand where it does.
@@ -38,20 +100,14 @@ pub(crate) fn check_rows(
         (held sheet.old tables.old) (held sheet.new tables.new) result }
     ensures slices { SameSlices tables.old tables.new }
 {
-    let n = lists.stages.len();
-    if n == 0 {
+    if lists.stages.is_empty() {
         return Err(CheckFault::NoStage);
     }
     if let Some(s) = dead_end(lists.stages, lists.moves) {
         return Err(CheckFault::DeadEnd(s));
     }
-    let chained = Chained::of(*lists);
-    if let Some(s) = still_stage(&chained) {
-        return Err(CheckFault::StillCycle(s));
+    if chains_pay(lists.moves, lines) {
+        return check_chained(lists, lines, sheet, tables);
     }
-    if !has_room(n, sheet, tables) {
-        return Err(CheckFault::ShortMemory);
-    }
-    check_lines(&chained, lines, sheet, tables);
-    Ok(lines.len())
+    check_paths(&Paths::of(lists.stages, lists.moves), lines, sheet, tables)
 }

@@ -1,19 +1,36 @@
 // What a program has to have, so that rules can be checked on it: each stage a move out, and no cycle of moves that
 // take no time.
-ghost use Rattle.std.specs.Prelude.{◌≡◌, ◌<◌, ◌≤◌, length};
+ghost use Rattle.std.specs.Prelude.{◌≡◌, ℕ, ◌<◌, ◌≤◌, true, length};
 ghost use Rattle.program.specs.Meaning.{prog};
 ghost use Rattle.tally.specs.Walks.{among};
 ghost use Rattle.tally.specs.Rounds.{Within};
-ghost use Rattle.checker.specs.Found.{DeadFound, CycleFound, Found, meets, ahead, steps};
+ghost use Rattle.checker.specs.Found.{DeadFound, LeftBefore, CycleFound, Found, meets, ahead, steps};
 
 use program::{MOST_STAGES, Move, Stage};
-use settle::endless::{Sort, keep_endless};
-use settle::links::Chained;
+use settle::endless::Sort;
+use sheet::paths::Paths;
+
+// Whether each of so many stages is left by a move, and they are no more than a program has: in one pass over the moves.
+fn all_left(stages: usize, moves: &[Move]) -> bool
+    ensures { result ≡ true → (s : ℕ) → s < stages → LeftBefore moves.now (length moves.now) s }
+{
+    let mut without = [1u32; MOST_STAGES];
+    for m in moves {
+        let s = usize::from(m.leaves);
+        if s < MOST_STAGES {
+            without[s] = 0;
+        }
+    }
+    stages <= MOST_STAGES && first_in(stages, &without).is_none()
+}
 
 // The lowest stage that no move leaves.
 pub fn dead_end(stages: &[Stage], moves: &[Move]) -> Option<usize>
     ensures { DeadFound (prog stages.now moves.now) result }
 {
+    if all_left(stages.len(), moves) {
+        return None;
+    }
     // Stages by moves, left by a label: the form that the project asks for here.
     'stages: for s in 0..stages.len() {
         for m in moves {
@@ -68,13 +85,12 @@ fn follow(n: usize, moves: &[Move], set: &[u32], s: usize) -> usize
 }
 
 // A stage on a cycle of moves that take no time.
-pub(crate) fn still_stage(chained: &Chained) -> Option<usize>
-    ensures { CycleFound (prog chained.now.lists.stages.now chained.now.lists.moves.now) result }
+pub(crate) fn still_stage(paths: &Paths) -> Option<usize>
+    ensures { CycleFound (prog paths.now.stages.now paths.now.moves.now) result }
 {
-    let lists = chained.lists;
-    let n = lists.stages.len();
+    let n = paths.stages.len();
     let mut set = [1u32; MOST_STAGES];
-    keep_endless(Sort::Still, chained, &mut set);
+    paths.keep_endless(Sort::Still, &mut set);
     let first = first_in(n, &set)?;
-    Some(follow(n, lists.moves, &set, first))
+    Some(follow(n, paths.moves, &set, first))
 }

@@ -3,9 +3,8 @@ use Rattle.std.proofs.Common.{◌≡◌, ℕ, ◌+◌, ◌<◌, List, length, se
 use Rattle.std.proofs.Common.{arith}
 use Rattle.std.proofs.lemmas.List.{get_or-set_same, get_or-set_other}
 use Rattle.std.proofs.lemmas.Bool.{cases_eq, cases_lt}
-use Rattle.program.specs.declared.Stage.{Stage}
 use Rattle.program.specs.declared.Move.{Move}
-use Rattle.program.specs.Meaning.{Joined, prog, most_stages}
+use Rattle.program.specs.Meaning.{most_stages}
 use Rattle.tally.specs.Rounds.{Within}
 use Rattle.program.specs.declared.End.{End}
 use Rattle.program.specs.declared.End.TheVariants.{Leaves, Enters}
@@ -68,11 +67,6 @@ module _ (end : End) (moves : List Move) where
             (c.nexts j (omega arith)))
             (cases_eq j k);
       }
-
--- The ends of a program's moves are among its stages.
-pub ends_within : (stages : List Stage) (moves : List Move) → Joined (prog stages moves)
-    → Within (length stages) moves
-ends_within stages moves joined k l = joined.ends k l
 
 -- The end of a move is among the stages.
 pub end_within : (end : End) (n : ℕ) (moves : List Move) → Within n moves → (k : ℕ) → k < length moves

@@ -7,7 +7,7 @@ use Rattle.std.proofs.lemmas.Bool.{cases_eq}
 use Rattle.program.specs.Meaning.{most_stages}
 use Rattle.settle.specs.declared.queue.Queue.{Queue}
 use Rattle.settle.specs.Rings.{behind, Stands, IsIn, Orderly}
-use Rattle.settle.specs.Queues.{Waits, AllWait}
+use Rattle.settle.specs.Queues.{Waits, Lined, AllWait, PutsIn}
 
 nothing_told : (n stage : ℕ) → T (get_or (replicate n false) stage false) → ⊥
 nothing_told zero stage t = t
@@ -25,6 +25,11 @@ empty_orderly ring = record {
   stages = λ stage w. absurd (none_in ring 0 stage w);
   told = λ stage t. absurd (nothing_told most_stages stage t);
 }
+
+-- Where a stage below n is put in, only stages below n wait still.
+pub lined_more : (n stage : ℕ) (was after : Queue) → stage < n → PutsIn stage was after → Lined n was → Lined n after
+lined_more n stage was after low puts lined other w =
+    ⊎_elim (lined other) (λ e. subst (λ x. x < n) (sym e) low) (puts.only other w)
 
 -- Those below one more stage wait if those below it do, and it does if it is in the set.
 pub all_wait_more : (n : ℕ) (set : ℕ → Bool) (was after : Queue) → ((other : ℕ) → Waits was other → Waits after other)

@@ -8,6 +8,10 @@ use Rattle.settle.specs.Rings.{IsIn}
 abbrev pub Waits : Queue → ℕ → Type 0
 Waits q = IsIn q.ring q.head q.count
 
+-- Only stages below n wait in the queue.
+abbrev pub Lined : ℕ → Queue → Type 0
+Lined n queue = (stage : ℕ) → Waits queue stage → stage < n
+
 -- Each stage of a set, among the first n, waits in the queue.
 abbrev pub AllWait : ℕ → (ℕ → Bool) → Queue → Type 0
 AllWait n set queue = (stage : ℕ) → stage < n → T (set stage) → Waits queue stage

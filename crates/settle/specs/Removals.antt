@@ -15,10 +15,10 @@ use Rattle.settle.specs.Rows.{sort_of, RestKept}
 
 -- How many stages a program has, and its moves.
 abbrev pub stages_of : Chained → ℕ
-stages_of p = length p.lists.stages.now
+stages_of p = p.stages
 
 abbrev pub moves_of : Chained → List Move
-moves_of p = p.lists.moves.now
+moves_of p = p.moves.now
 
 -- Whether the move with a number is of a sort.
 abbrev pub sorted : Sort → List Move → ℕ → Bool

@@ -24,6 +24,10 @@ pub record Orderly (ring : List ℕ) (waiting : List Bool) (head count : ℕ) : 
   pub stages : (stage : ℕ) → IsIn ring head count stage → stage < most_stages
   pub told : (stage : ℕ) → T (slice_index_or waiting stage false) → IsIn ring head count stage
 
+-- All that stand in a list are below n.
+abbrev pub AllBelow : ℕ → List ℕ → Type 0
+AllBelow n stages = (i : ℕ) → i < length stages → slice_index stages i < n
+
 -- All that stand in a list are stages.
 abbrev pub AllStages : List ℕ → Type 0
-AllStages stages = (i : ℕ) → i < length stages → slice_index stages i < most_stages
+AllStages = AllBelow most_stages

@@ -1,8 +1,7 @@
 // The greatest part of a set in which each stage has a move into the part.
 ghost use Rattle.std.specs.Prelude.{◌≡◌, ◌≤◌, length};
-ghost use Rattle.tctl.specs.Checker.{endless};
-ghost use Rattle.program.specs.Graphs.{graph_of, timed_move};
-ghost use Rattle.settle.specs.Rows.{row, RestKept, sort_of};
+ghost use Rattle.program.specs.Graphs.{timed_move};
+ghost use Rattle.settle.specs.Rows.{RestKept, LeavesEndless, sort_of};
 
 use crate::links::Chained;
 use crate::removal::Removal;
@@ -30,11 +29,9 @@ impl Sort {
 
 // Leaves of the set the greatest part in which each stage has a move of the sort into the part.
 pub fn keep_endless(sort: Sort, chained: &Chained, set: &mut [u32])
-    requires set { length chained.now.lists.stages.now ≤ length set.old }
-    ensures left { row (length chained.now.lists.stages.now) set.new
-        ≡ endless (graph_of chained.now.lists.stages.now chained.now.lists.moves.now) (sort_of sort)
-        (row (length chained.now.lists.stages.now) set.old) (length chained.now.lists.stages.now) }
-    ensures above { RestKept (length chained.now.lists.stages.now) set.old set.new }
+    requires set { chained.now.stages ≤ length set.old }
+    ensures left { LeavesEndless sort chained.now.stages chained.now.moves.now set.old set.new }
+    ensures above { RestKept chained.now.stages set.old set.new }
 {
     let _removal = Removal::of(sort, chained, set);
 }

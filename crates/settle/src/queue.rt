@@ -22,7 +22,7 @@ impl Queue {
     ghost use Rattle.std.specs.Prelude.{◌≡◌, ℕ, ◌<◌, ◌≤◌, length, OnOk};
     ghost use Rattle.program.specs.Meaning.{most_stages};
     ghost use Rattle.tally.specs.Walks.{among};
-    ghost use Rattle.settle.specs.Queues.{Waits, AllWait, PutsIn, Takes};
+    ghost use Rattle.settle.specs.Queues.{Waits, Lined, AllWait, PutsIn, Takes};
 
     pub fn empty() -> Queue
         ensures { (stage : ℕ) → Waits result stage → ⊥ }
@@ -57,7 +57,8 @@ impl Queue {
     pub fn put_all(&mut self, n: usize, set: &[u32]) -> Result<(), Full>
         requires few { n ≤ most_stages }
         requires set { n ≤ length set.now }
-        ensures { OnOk result (AllWait n (among set.now) self.new) }
+        ensures lined { Lined n self.old → Lined n self.new }
+        ensures wait { OnOk result (AllWait n (among set.now) self.new) }
     {
         for (stage, word) in set[..n].iter().enumerate() {
             if *word > 0 {

@@ -1,10 +1,10 @@
 // The removal of stages from a set, until each that is left has a move into what is left. Each such stage watches one
 // of its moves; when the stage that this move enters is removed, it looks for the next of its moves into the set.
-ghost use Rattle.std.specs.Prelude.{◌≡◌, ◌<◌, ◌≤◌, T, ◌⊎◌, length, ◌↔◌, IsTrue};
+ghost use Rattle.std.specs.Prelude.{◌≡◌, ℕ, ◌<◌, ◌≤◌, T, ◌⊎◌, length, ◌↔◌, IsTrue};
 ghost use Rattle.program.specs.Graphs.{timed_move};
 ghost use Rattle.tally.specs.Walks.{among};
 ghost use Rattle.program.specs.declared.End.TheVariants.{Enters};
-ghost use Rattle.settle.specs.Rings.{AllStages};
+ghost use Rattle.settle.specs.Rings.{AllBelow, AllStages};
 ghost use Rattle.settle.specs.Rows.{sort_of};
 
 use crate::endless::Sort;
@@ -35,6 +35,7 @@ fn leads(sort: Sort, m: Move, set: &[u32]) -> bool
 
 impl Removal {
     ghost use Rattle.settle.specs.Chains.{end_at, link_at};
+    ghost use Rattle.settle.specs.Queues.{Lined};
     ghost use Rattle.settle.specs.Removals.{stages_of, moves_of, From, Outside, Booked, Watching, Due};
     ghost use Rattle.settle.specs.Removals.{Removes, Removed, Rewatches, LooksAt};
 
@@ -56,7 +57,7 @@ impl Removal {
         let mut link = from;
         while let Some(number) = link {
             let k = usize::from(number);
-            if leads(sort, chained.lists.moves[k], set) {
+            if leads(sort, chained.moves[k], set) {
                 self.watched[stage] = link;
                 return;
             }
@@ -72,7 +73,7 @@ impl Removal {
         ensures removes { Removes sort chained.now set.old set.new self.old self.new }
         ensures watching { Watching sort chained.now (among set.new) (Due chained.now self.new) self.new }
     {
-        let firsts = &chained.chains.leaves.first[..chained.lists.stages.len()];
+        let firsts = &chained.chains.leaves.first[..chained.stages];
         for (stage, first) in firsts.iter().enumerate() {
             if set[stage] > 0 {
                 self.watch(sort, chained, stage, *first, set);
@@ -109,7 +110,7 @@ impl Removal {
         let mut link = chained.chains.enters.first[gone];
         while let Some(number) = link {
             let k = usize::from(number);
-            let stage = usize::from(chained.lists.moves[k].leaves);
+            let stage = usize::from(chained.moves[k].leaves);
             if self.watches(stage, link, set) {
                 self.watch(sort, chained, stage, chained.chains.leaves.next[k], set);
             }
@@ -135,7 +136,9 @@ impl Removal {
     }
 
     // Puts the stages that are gone into a queue, in the order in which they went.
-    pub fn put_gone(&self, queue: &mut Queue) -> Result<(), Full> {
+    pub fn put_gone(&self, queue: &mut Queue) -> Result<(), Full>
+        ensures { (n : ℕ) → AllBelow n self.now.gone.items → Lined n queue.old → Lined n queue.new }
+    {
         for stage in self.gone.as_slice() {
             queue.put(usize::from(*stage))?;
         }

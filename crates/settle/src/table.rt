@@ -8,7 +8,7 @@ ghost use Rattle.tally.specs.Sweeps.{InPlace, Still, OfAll};
 ghost use Rattle.tally.specs.Tables.{Filled};
 ghost use Rattle.program.specs.declared.End.TheVariants.{Enters};
 ghost use Rattle.settle.specs.Chains.{end_at, Linked};
-ghost use Rattle.settle.specs.Queues.{Waits, AllWait, PutsIn};
+ghost use Rattle.settle.specs.Queues.{Waits, Lined, AllWait, PutsIn};
 ghost use Rattle.settle.specs.Tended.{Tended, Due, StillPartly, Settles};
 
 use crate::endless::Sort;
@@ -41,8 +41,8 @@ impl From<Full> for Unsettled {
 struct ChainedWalks<'w, 'c, 'l> {
     walks: Walks<'w>,
     chained: &'c Chained<'l>,
-    ghost stages: { walks.stages ≡ length chained.now.lists.stages.now },
-    ghost linked: { Linked Enters walks.stages walks.moves.now chained.now.chains.enters },
+    ghost stages: { walks.stages ≡ chained.now.stages },
+    ghost linked: { Linked Enters walks.stages walks.moves.now chained.now.chains.now.enters },
 }
 
 // Sets the words of the goals that are to be passed to 0.
@@ -131,7 +131,8 @@ impl ChainedWalks<'_, '_, '_> {
     // no walk is endless within the set to pass, each behind all those that its moves enter: so it comes out when what
     // is said of those is settled, and need not come again.
     fn line_up(&self, queue: &mut Queue) -> Result<(), Full>
-        ensures { OnOk result (AllWait self.now.walks.stages (among self.now.walks.goals.now) queue.new) }
+        ensures lined { Lined self.now.walks.stages queue.old → Lined self.now.walks.stages queue.new }
+        ensures wait { OnOk result (AllWait self.now.walks.stages (among self.now.walks.goals.now) queue.new) }
     {
         let n = self.walks.stages;
         let mut inner = [0; MOST_STAGES];
@@ -160,19 +161,18 @@ impl ChainedWalks<'_, '_, '_> {
 
 // Fills the table with the choices over all walks of at most n moves, which are those over all walks.
 pub fn tally_all<T: Tally>(chained: &Chained, pass: &[u32], goals: &[u32], table: &mut [T])
-    requires pass { length chained.now.lists.stages.now ≤ length pass.now }
-    requires goals { length chained.now.lists.stages.now ≤ length goals.now }
-    requires room { 4 * length chained.now.lists.stages.now ≤ length table.old }
-    requires settles { Settles T.Tally.algebra (length chained.now.lists.stages.now) chained.now.lists.moves.now
+    requires pass { chained.now.stages ≤ length pass.now }
+    requires goals { chained.now.stages ≤ length goals.now }
+    requires room { 4 * chained.now.stages ≤ length table.old }
+    requires settles { Settles T.Tally.algebra chained.now.stages chained.now.moves.now
         (among pass.now) (among goals.now) }
-    ensures { Filled T.Tally.algebra (tallied T.Tally.algebra chained.now.lists.moves.now
-        (among pass.now) (among goals.now) (length chained.now.lists.stages.now))
-        (length chained.now.lists.stages.now) table.old table.new }
+    ensures { Filled T.Tally.algebra (tallied T.Tally.algebra chained.now.moves.now
+        (among pass.now) (among goals.now) chained.now.stages) chained.now.stages table.old table.new }
 {
-    let stages = chained.lists.stages.len();
+    let stages = chained.stages;
     let walks = Walks {
         stages,
-        moves: chained.lists.moves,
+        moves: chained.moves,
         pass,
         goals,
     };

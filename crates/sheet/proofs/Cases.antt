@@ -13,7 +13,7 @@ use Rattle.tally.specs.Algebras.{most_sum, reach_algebra, shortest_algebra, long
 use Rattle.tally.specs.Walks.{among, tallied}
 use Rattle.tally.specs.Rounds.{Within}
 use Rattle.tally.proofs.Laws.{reach_laws, minutes_laws}
-use Rattle.settle.specs.declared.links.Chained.{Chained}
+use Rattle.sheet.specs.declared.paths.Paths.{Paths}
 use Rattle.settle.specs.Rows.{row}
 use Rattle.sheet.specs.declared.stage_set.StageSet.{StageSet}
 use Rattle.sheet.specs.Sets.{stage_count, has}
@@ -254,35 +254,35 @@ module _ (S : List Stage) (moves : List Move) (f g : ℕ → Bool) where
         (et s h ∙ short_at pass goals Pass H ep he (c - 1) b s h))
 
 -- The same, of a program's own stages.
-module _ (chained : Chained) (f g : StageSet) where
+module _ (paths : Paths) (f g : StageSet) where
   abbrev shown_stages : List Stage
-  shown_stages = map timed_stage chained.lists.stages.now
+  shown_stages = map timed_stage paths.stages.now
 
   abbrev moves' : List Move
-  moves' = chained.lists.moves.now
+  moves' = paths.moves.now
 
-  as_many : length shown_stages ≡ stage_count chained
-  as_many = length-map chained.lists.stages.now timed_stage
+  as_many : length shown_stages ≡ stage_count paths
+  as_many = length-map paths.stages.now timed_stage
 
   inside : Within (length shown_stages) moves'
-  inside = subst (λ n. Within n moves') (sym as_many) chained.linked.leaves.within
+  inside = subst (λ n. Within n moves') (sym as_many) paths.within
 
-  pub some_most_set : SomeMost shown_stages moves' (has f) (has g) (stage_count chained)
+  pub some_most_set : SomeMost shown_stages moves' (has f) (has g) (stage_count paths)
   some_most_set =
       subst (SomeMost shown_stages moves' (has f) (has g)) as_many
       (some_most shown_stages moves' (has f) (has g) inside)
 
-  pub some_least_set : SomeLeast shown_stages moves' (has f) (has g) (stage_count chained)
+  pub some_least_set : SomeLeast shown_stages moves' (has f) (has g) (stage_count paths)
   some_least_set =
       subst (SomeLeast shown_stages moves' (has f) (has g)) as_many
       (some_least shown_stages moves' (has f) (has g) inside)
 
-  pub each_most_set : EachMost shown_stages moves' (has f) (has g) (stage_count chained)
+  pub each_most_set : EachMost shown_stages moves' (has f) (has g) (stage_count paths)
   each_most_set =
       subst (EachMost shown_stages moves' (has f) (has g)) as_many
       (each_most shown_stages moves' (has f) (has g) inside)
 
-  pub each_least_set : EachLeast shown_stages moves' (has f) (has g) (stage_count chained)
+  pub each_least_set : EachLeast shown_stages moves' (has f) (has g) (stage_count paths)
   each_least_set =
       subst (EachLeast shown_stages moves' (has f) (has g)) as_many
       (each_least shown_stages moves' (has f) (has g) inside)

@@ -1,8 +1,9 @@
 -- Sets as lists and as rows of words.
 use Rattle.std.proofs.Common.{◌≡◌, ℕ, zero, suc, ◌+◌, ◌<◌, ◌≤◌, Bool, true, false, eqb, List, ◌∷◌, map, length}
-use Rattle.std.proofs.Common.{get_or, sym, refl, ap, ◌∙◌, subst, arith}
+use Rattle.std.proofs.Common.{get_or, sym, refl, ap, ◌∙◌, subst, ⊎_elim, arith}
 use Rattle.std.proofs.lemmas.List.{get_or-map, length-map}
-use Rattle.tctl.specs.Graph.{Move}
+use Rattle.std.proofs.lemmas.Bool.{cases_eq, eq-eqb, ne_eqb}
+use Rattle.tctl.specs.Graph.{Move, Graph}
 use Rattle.program.specs.declared.Stage.{Stage}
 use Rattle.program.specs.declared.Move as program
 use Rattle.program.specs.Meaning.{no_move}
@@ -11,9 +12,10 @@ use Rattle.settle.specs.Rows.{row}
 use Rattle.tally.specs.Walks.{among}
 use Rattle.tally.specs.Rounds.{Within}
 use Rattle.tctl.specs.Runs.{Sound}
-use Rattle.tctl.specs.Checker.{table, tab_from, at, into, any_move, ◌and◌, ◌or◌}
+use Rattle.tctl.specs.Checker.{table, tab_from, at, into, endless, ◌and◌, ◌or◌}
 use Rattle.tctl.proofs.Basics.{table_at}
 use Rattle.sheet.specs.declared.tables.Tables.{Tables}
+use Rattle.sheet.specs.Rows.{shrunk}
 use Rattle.sheet.specs.Tables.{AreSpent, SameSlices}
 
 tab_same : {A : Type 0} (f h : ℕ → A) (n i : ℕ) → ((s : ℕ) → i ≤ s → s < i + n → f s ≡ h s) → tab_from f n i
@@ -31,15 +33,41 @@ or_join : (a b c : Bool) → ((a or b) or c) ≡ (a or (b or c))
 or_join true b c = refl
 or_join false b c = refl
 
--- One move of a loop that adds the stages with a move into a set.
-pub into_step : (S : List Bool) (m : Move) (ms : List Move) (s : ℕ) (x y : Bool)
-    → y ≡ (x or (eqb m.leaves s and at S m.enters)) → (y or into any_move ms S s) ≡ (x or into any_move (m ∷ ms) S s)
-into_step S m ms s x y e =
-    ap (λ b. b or into any_move ms S s) e ∙ or_join x (eqb m.leaves s and at S m.enters) (into any_move ms S s)
-
 pub or_none : (a : Bool) → (a or false) ≡ a
 or_none true = refl
 or_none false = refl
+
+-- One move of a loop that adds the stages with a move of the sort into a set.
+pub into_add : (sort : Move → Bool) (S : List Bool) (m : Move) (ms : List Move) (s : ℕ) (x y : Bool)
+    → y ≡ (x or (eqb m.leaves s and (sort m and at S m.enters)))
+    → (y or into sort ms S s) ≡ (x or into sort (m ∷ ms) S s)
+into_add sort S m ms s x y e =
+    ap (λ b. b or into sort ms S s) e
+    ∙ or_join x (eqb m.leaves s and (sort m and at S m.enters)) (into sort ms S s)
+
+or_off : (t x z : Bool) → t ≡ false → (x or (t and z)) ≡ x
+or_off t x z e = ap (λ v. x or (v and z)) e ∙ or_none x
+
+-- The same, from what becomes of the stage that the move leaves, and of the others.
+pub into_step : (sort : Move → Bool) (S : List Bool) (m : Move) (ms : List Move) (s : ℕ) (x y : Bool)
+    → (m.leaves ≡ s → y ≡ (x or (sort m and at S m.enters))) → ((m.leaves ≡ s → ⊥) → y ≡ x)
+    → (y or into sort ms S s) ≡ (x or into sort (m ∷ ms) S s)
+into_step sort S m ms s x y here other =
+    let enters = sort m and at S m.enters in
+    into_add sort S m ms s x y
+    (⊎_elim (λ e. here e ∙ ap (λ v. x or (v and enters)) (sym (eq-eqb m.leaves s e)))
+    (λ ne. other ne ∙ sym (or_off (eqb m.leaves s) x enters (ne_eqb m.leaves s ne)))
+    (cases_eq m.leaves s))
+
+-- Once a round of removal changes nothing, no later one does.
+pub endless_settled : (p : Graph) (sort : Move → Bool) (S : List Bool) (i : ℕ) → endless p sort S i
+    ≡ endless p sort S (suc i)
+    → (j : ℕ) → i ≤ j → endless p sort S i ≡ endless p sort S j
+endless_settled p sort S i e zero l = let z : i ≡ 0 = omega arith in ap (endless p sort S) z
+endless_settled p sort S i e (suc j) l =
+    ⊎_elim (λ (z : i ≡ suc j). ap (endless p sort S) z)
+    (λ d. e ∙ ap (shrunk p sort) (endless_settled p sort S i e j (omega arith)))
+    (cases_eq i (suc j))
 
 -- an entry of a row
 pub row_at : (n : ℕ) (ws : List ℕ) (s : ℕ) → s < n → at (row n ws) s ≡ among ws s

@@ -19,7 +19,7 @@ use Rattle.tally.proofs.Rounds.{rounds_tally}
 use Rattle.tally.proofs.Walked.{all_walks_lem}
 use Rattle.tally.proofs.Sweeps.{has_within, chosen_of_all_lem}
 use Rattle.tally.proofs.Settling.{reach_settles, short_settles, long_settles, outside_few}
-use Rattle.settle.specs.declared.links.Chained.{Chained}
+use Rattle.sheet.specs.declared.paths.Paths.{Paths}
 use Rattle.settle.specs.Tended.{Settles}
 use Rattle.sheet.specs.Sets.{stage_count, timed}
 use Rattle.sheet.specs.Told.{reaches}
@@ -29,25 +29,25 @@ said_reach : (w : List Move) → said reach_algebra w ≡ reach_algebra.start
 said_reach [] = refl
 said_reach (m ∷ w) = said_reach w
 
-module _ (chained : Chained) where
+module _ (paths : Paths) where
   abbrev n : ℕ
-  n = stage_count chained
+  n = stage_count paths
 
   abbrev moves : List Move
-  moves = chained.lists.moves.now
+  moves = paths.moves.now
 
   pub reach_settled : (pass goals : ℕ → Bool) → Settles reach_algebra n moves pass goals
-  reach_settled = reach_settles n moves chained.linked.leaves.within
+  reach_settled = reach_settles n moves paths.within
 
   pub short_settled : (pass goals : ℕ → Bool) → Settles shortest_algebra n moves pass goals
-  short_settled = short_settles n moves chained.linked.leaves.within
+  short_settled = short_settles n moves paths.within
 
   -- Where a walk leads to a goal, the tally says so.
   reach_has : (pass goals : ℕ → Bool) (s : ℕ) → s < n → (w : List Move) → Leads moves pass goals s w
       → T (reaches 0 (tallied reach_algebra moves pass goals n s))
   reach_has pass goals s l w h =
       let all : OfAll reach_algebra n moves pass goals (rounds reach_algebra moves pass goals n) =
-      (chosen_of_all_lem reach_algebra reach_laws n moves chained.linked.leaves.within pass goals).by_round
+      (chosen_of_all_lem reach_algebra reach_laws n moves paths.within pass goals).by_round
       (rounds reach_algebra moves pass goals n)
       (λ t _. record {
         ways = walks moves pass goals n t;
@@ -61,29 +61,29 @@ module _ (chained : Chained) where
       subst (λ (x : Reach). T x.0) (sym e) tt
 
   -- The moves leave stages of the graph.
-  from : (k : ℕ) → k < timed.count (timed chained)
-      → (timed.move_at (timed chained) k).leaves < timed.size (timed chained)
+  from : (k : ℕ) → k < timed.count (timed paths)
+      → (timed.move_at (timed paths) k).leaves < timed.size (timed paths)
   from k h =
       let l : k < length moves = subst (λ n. k < n) (length-map moves timed_move) h in
-      subst (λ i. (timed.move_at (timed chained) k).leaves < i)
-      (sym (length-map chained.lists.stages.now timed_stage))
+      subst (λ i. (timed.move_at (timed paths) k).leaves < i)
+      (sym (length-map paths.stages.now timed_stage))
       (subst (λ (m : timed.Move). m.leaves < n) (sym (timed_move_at moves k l))
-      (chained.linked.leaves.within k l).0)
+      (paths.within k l).0)
 
-  module _ (set ever rest goals : ℕ → Bool) (left : table n ever ≡ endless (timed chained) any_move (table n set) n)
+  module _ (set ever rest goals : ℕ → Bool) (left : table n ever ≡ endless (timed paths) any_move (table n set) n)
     where
       -- What is passed by a walk is in the set, and not in the part that need not be left.
       outside_settled : ((s : ℕ) (m : Move) (w : List Move) → Leads moves rest goals s (m ∷ w) → T (set s))
           → ((s : ℕ) → s < n → T (rest s) → T (non (ever s)))
           → Settles longest_algebra n moves rest goals
       outside_settled inside out =
-          long_settles n moves chained.linked.leaves.within rest goals
-          (outside_few (prog chained.lists.stages.now moves) from (table n set) rest goals
+          long_settles n moves paths.within rest goals
+          (outside_few (prog paths.stages.now moves) from (table n set) rest goals
           (λ s m w h. table_i set n s
-          (subst (λ x. x < n) h.1 (has_within n moves chained.linked.leaves.within m h.0).0) (inside s m w h))
+          (subst (λ x. x < n) h.1 (has_within n moves paths.within m h.0).0) (inside s m w h))
           n
           (λ s t i.
-          let l = (table_e set n s (in_set (timed chained) from any_move (table n set) n s i)).0 in
+          let l = (table_e set n s (in_set (timed paths) from any_move (table n set) n s i)).0 in
           non_e (ever s) (out s l t)
           (subst (λ b. T b) (table_at ever false n s l)
           (subst (λ (x : List Bool). T (at x s)) (sym left) i))))
@@ -96,7 +96,7 @@ module _ (chained : Chained) where
         passed s l t = and_l (pass s) (non (ever s)) (subst (λ b. T b) (apart s l) t)
 
         among_stages : (s : ℕ) (m : Move) (w : List Move) → Leads moves rest goals s (m ∷ w) → s < n
-        among_stages s m w h = subst (λ x. x < n) h.1 (has_within n moves chained.linked.leaves.within m h.0).0
+        among_stages s m w h = subst (λ x. x < n) h.1 (has_within n moves paths.within m h.0).0
 
         wider : (s : ℕ) (w : List Move) → Leads moves rest goals s w → Leads moves pass goals s w
         wider s [] h = h

@@ -1,4 +1,5 @@
 pub mod Sets
+pub mod Rows
 pub mod Told
 pub mod Tables
 pub mod Sheets

@@ -3,6 +3,8 @@
 
 #![tactic(auto)]
 
+pub mod parts;
+pub mod paths;
 pub mod sheets;
 mod stage_set;
 pub mod tables;

@@ -10,11 +10,11 @@ ghost use Rattle.sheet.specs.Sets.{has, listed, stage_count, timed};
 ghost use Rattle.sheet.specs.Tables.{HaveRoom, AreReady, AreSpent, SameSlices};
 ghost use Rattle.sheet.specs.Sheets.{bit, column, until_list, line_list, Added, Below, Names};
 
+use crate::paths::Paths;
 use crate::stage_set::{StageSet, is_open};
 use crate::tables::Tables;
 use crate::untils::{each_least, each_most, some_least, some_most};
 use rules::line::{Bound, Line, Quantifier};
-use settle::links::Chained;
 
 fn bit_of(word: u32, k: usize) -> bool
     requires { k < most_lines }
@@ -55,16 +55,16 @@ fn write_column(n: usize, k: usize, holds: &StageSet, sheet: &mut [u32])
 }
 
 // Whether a stage bears a mark, open or not.
-fn has_mark(chained: &Chained, s: usize, letter: u8) -> bool
-    requires { (s < stage_count chained.now) × (letter < 16) }
-    ensures { result ≡ marked (timed chained.now) s letter }
+fn has_mark(paths: &Paths, s: usize, letter: u8) -> bool
+    requires { (s < stage_count paths.now) × (letter < 16) }
+    ensures { result ≡ marked (timed paths.now) s letter }
 {
-    (chained.lists.stages[s].marks >> letter) % 2 == 1
+    (paths.stages[s].marks >> letter) % 2 == 1
 }
 
 // Where an until holds, from where its parts do.
 fn until_set(
-    chained: &Chained,
+    paths: &Paths,
     quantifier: Quantifier,
     f: &StageSet,
     bound: Bound,
@@ -72,38 +72,38 @@ fn until_set(
     tables: &mut Tables,
 ) -> StageSet
     requires small { bound_number bound ≤ largest_number }
-    requires ready { AreReady (stage_count chained.now) tables.old }
-    ensures is { listed (stage_count chained.now) result
-        ≡ until_list (timed chained.now) quantifier bound (listed (stage_count chained.now) f.now)
-        (listed (stage_count chained.now) g.now) }
-    ensures spent { AreSpent (stage_count chained.now) tables.old tables.new }
+    requires ready { AreReady (stage_count paths.now) tables.old }
+    ensures is { listed (stage_count paths.now) result
+        ≡ until_list (timed paths.now) quantifier bound (listed (stage_count paths.now) f.now)
+        (listed (stage_count paths.now) g.now) }
+    ensures spent { AreSpent (stage_count paths.now) tables.old tables.new }
     ensures slices { SameSlices tables.old tables.new }
 {
     match (quantifier, bound) {
-        (Quantifier::Some, Bound::AtMost(c)) => some_most(chained, f, c, g, tables),
-        (Quantifier::Some, Bound::AtLeast(c)) => some_least(chained, f, c, g, tables),
-        (Quantifier::All, Bound::AtMost(c)) => each_most(chained, f, c, g, tables),
-        (Quantifier::All, Bound::AtLeast(c)) => each_least(chained, f, c, g, tables),
+        (Quantifier::Some, Bound::AtMost(c)) => some_most(paths, f, c, g, tables),
+        (Quantifier::Some, Bound::AtLeast(c)) => some_least(paths, f, c, g, tables),
+        (Quantifier::All, Bound::AtMost(c)) => each_most(paths, f, c, g, tables),
+        (Quantifier::All, Bound::AtLeast(c)) => each_least(paths, f, c, g, tables),
     }
 }
 
 // Where a line holds, from the columns of the lines before it.
-fn line_set(chained: &Chained, line: Line, sheet: &[u32], tables: &mut Tables) -> StageSet
+fn line_set(paths: &Paths, line: Line, sheet: &[u32], tables: &mut Tables) -> StageSet
     requires formed { Formed most_lines line }
-    requires sheet { stage_count chained.now ≤ length sheet.now }
-    requires ready { AreReady (stage_count chained.now) tables.old }
-    ensures is { listed (stage_count chained.now) result
-        ≡ line_list (timed chained.now) (column (stage_count chained.now) sheet.now) line }
-    ensures spent { AreSpent (stage_count chained.now) tables.old tables.new }
+    requires sheet { stage_count paths.now ≤ length sheet.now }
+    requires ready { AreReady (stage_count paths.now) tables.old }
+    ensures is { listed (stage_count paths.now) result
+        ≡ line_list (timed paths.now) (column (stage_count paths.now) sheet.now) line }
+    ensures spent { AreSpent (stage_count paths.now) tables.old tables.new }
     ensures slices { SameSlices tables.old tables.new }
 {
-    let n = chained.lists.stages.len();
+    let n = paths.stages.len();
     match line {
-        Line::One => StageSet::of(n, |s| is_open(chained, s)),
+        Line::One => StageSet::of(n, |s| is_open(paths, s)),
         Line::Letter(letter) => StageSet::of(n, |s| {
-            is_open(chained, s) && has_mark(chained, s, letter)
+            is_open(paths, s) && has_mark(paths, s, letter)
         }),
-        Line::Not(i) => StageSet::of(n, |s| is_open(chained, s) && !bit_of(sheet[s], i)),
+        Line::Not(i) => StageSet::of(n, |s| is_open(paths, s) && !bit_of(sheet[s], i)),
         Line::And(i, j) => StageSet::of(n, |s| bit_of(sheet[s], i) && bit_of(sheet[s], j)),
         Line::Or(i, j) => StageSet::of(n, |s| bit_of(sheet[s], i) || bit_of(sheet[s], j)),
         Line::Until {
@@ -114,45 +114,45 @@ fn line_set(chained: &Chained, line: Line, sheet: &[u32], tables: &mut Tables) -
         } => {
             let f = read_column(n, left, sheet);
             let g = read_column(n, right, sheet);
-            until_set(chained, quantifier, &f, bound, &g, tables)
+            until_set(paths, quantifier, &f, bound, &g, tables)
         }
     }
 }
 
 // The line numbered k, and its column.
-fn add_line(chained: &Chained, k: usize, line: Line, sheet: &mut [u32], tables: &mut Tables)
+fn add_line(paths: &Paths, k: usize, line: Line, sheet: &mut [u32], tables: &mut Tables)
     requires number { k < most_lines }
     requires formed { Formed most_lines line }
-    requires sheet { stage_count chained.now ≤ length sheet.old }
-    requires below { Below (stage_count chained.now) k sheet.old }
-    requires ready { AreReady (stage_count chained.now) tables.old }
-    ensures added { Added (stage_count chained.now) k
-        (at (line_list (timed chained.now) (column (stage_count chained.now) sheet.old) line))
+    requires sheet { stage_count paths.now ≤ length sheet.old }
+    requires below { Below (stage_count paths.now) k sheet.old }
+    requires ready { AreReady (stage_count paths.now) tables.old }
+    ensures added { Added (stage_count paths.now) k
+        (at (line_list (timed paths.now) (column (stage_count paths.now) sheet.old) line))
         sheet.old sheet.new }
-    ensures above { RestKept (stage_count chained.now) sheet.old sheet.new }
-    ensures spent { AreSpent (stage_count chained.now) tables.old tables.new }
+    ensures above { RestKept (stage_count paths.now) sheet.old sheet.new }
+    ensures spent { AreSpent (stage_count paths.now) tables.old tables.new }
     ensures slices { SameSlices tables.old tables.new }
 {
-    let holds = line_set(chained, line, sheet, tables);
-    write_column(chained.lists.stages.len(), k, &holds, sheet);
+    let holds = line_set(paths, line, sheet, tables);
+    write_column(paths.stages.len(), k, &holds, sheet);
 }
 
 // Names for each line the stages at which it holds.
-pub fn check_lines(chained: &Chained, lines: &[Line], sheet: &mut [u32], tables: &mut Tables)
-    requires sound { Sound (timed chained.now) }
+pub fn check_lines(paths: &Paths, lines: &[Line], sheet: &mut [u32], tables: &mut Tables)
+    requires sound { Sound (timed paths.now) }
     requires lines { length lines.now ≤ most_lines }
     requires formed { WellFormed lines.now }
-    requires sheet { stage_count chained.now ≤ length sheet.old }
-    requires room { HaveRoom (stage_count chained.now) tables.old }
-    ensures names { Names (prog chained.now.lists.stages.now chained.now.lists.moves.now) lines.now
+    requires sheet { stage_count paths.now ≤ length sheet.old }
+    requires room { HaveRoom (stage_count paths.now) tables.old }
+    ensures names { Names (prog paths.now.stages.now paths.now.moves.now) lines.now
         sheet.old sheet.new }
-    ensures spent { AreSpent (stage_count chained.now) tables.old tables.new }
+    ensures spent { AreSpent (stage_count paths.now) tables.old tables.new }
     ensures slices { SameSlices tables.old tables.new }
 {
-    let n = chained.lists.stages.len();
+    let n = paths.stages.len();
     sheet[..n].fill(0);
     tables.clear(n);
     for (k, line) in lines.iter().enumerate() {
-        add_line(chained, k, *line, sheet, tables);
+        add_line(paths, k, *line, sheet, tables);
     }
 }

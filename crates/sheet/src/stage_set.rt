@@ -4,9 +4,9 @@ ghost use Rattle.tctl.specs.Checker.{any_move, endless, into, open?, non, ◌and
 ghost use Rattle.program.specs.Meaning.{most_stages};
 ghost use Rattle.sheet.specs.Sets.{has, listed, stage_count, timed, Says};
 
+use crate::paths::Paths;
 use program::{Kind, MOST_STAGES, Move};
-use settle::endless::{Sort, keep_endless};
-use settle::links::Chained;
+use settle::endless::Sort;
 
 // A stage is in the set where its word is not 0: words, as the tables are filled from rows of words.
 #[derive(Clone, Copy)]
@@ -44,13 +44,13 @@ impl StageSet {
     }
 
     // The greatest part in which each stage has a move into the part.
-    pub fn endless(&self, chained: &Chained) -> StageSet
-        ensures { listed (stage_count chained.now) result
-            ≡ endless (timed chained.now) any_move (listed (stage_count chained.now) self.now)
-            (stage_count chained.now) }
+    pub fn endless(&self, paths: &Paths) -> StageSet
+        ensures { listed (stage_count paths.now) result
+            ≡ endless (timed paths.now) any_move (listed (stage_count paths.now) self.now)
+            (stage_count paths.now) }
     {
         let mut words = self.words;
-        keep_endless(Sort::Any, chained, &mut words);
+        paths.keep_endless(Sort::Any, &mut words);
         StageSet { words }
     }
 
@@ -66,14 +66,14 @@ impl StageSet {
     }
 
     // The stages with a move into the set.
-    pub fn sources(&self, chained: &Chained) -> StageSet
-        ensures { Says (stage_count chained.now) result
-            (into any_move (timed chained.now).moves (listed (stage_count chained.now) self.now)) }
+    pub fn sources(&self, paths: &Paths) -> StageSet
+        ensures { Says (stage_count paths.now) result
+            (into any_move (timed paths.now).moves (listed (stage_count paths.now) self.now)) }
     {
         let mut sources = StageSet {
             words: [0; MOST_STAGES],
         };
-        for m in chained.lists.moves {
+        for m in paths.moves {
             sources.add_source(*m, self);
         }
         sources
@@ -81,9 +81,9 @@ impl StageSet {
 }
 
 // Whether a stage is open.
-pub(crate) fn is_open(chained: &Chained, s: usize) -> bool
-    requires { s < stage_count chained.now }
-    ensures { result ≡ open? (timed chained.now) s }
+pub(crate) fn is_open(paths: &Paths, s: usize) -> bool
+    requires { s < stage_count paths.now }
+    ensures { result ≡ open? (timed paths.now) s }
 {
-    chained.lists.stages[s].kind == Kind::Open
+    paths.stages[s].kind == Kind::Open
 }

@@ -6,9 +6,8 @@ ghost use Rattle.settle.specs.Tended.{Settles};
 ghost use Rattle.sheet.specs.Sets.{has, stage_count, Says};
 ghost use Rattle.sheet.specs.Told.{reaches, minutes_tell, Spent};
 
+use crate::paths::Paths;
 use crate::stage_set::StageSet;
-use settle::links::Chained;
-use settle::table::tally_all;
 use tally::rows::clear;
 use tally::{Minutes, Reach, Tally};
 
@@ -45,22 +44,22 @@ impl<const LONGEST: bool> Told for Minutes<LONGEST> {
 
 // Where the walks from pass to goals tell what is asked. The table is none again after it.
 pub(crate) fn tell<T: Told>(
-    chained: &Chained,
+    paths: &Paths,
     pass: &StageSet,
     goals: &StageSet,
     minutes: u32,
     table: &mut [T],
 ) -> StageSet
-    requires room { 4 * stage_count chained.now ≤ length table.old }
-    requires settles { Settles T.Tally.algebra (stage_count chained.now) chained.now.lists.moves.now
+    requires room { 4 * stage_count paths.now ≤ length table.old }
+    requires settles { Settles T.Tally.algebra (stage_count paths.now) paths.now.moves.now
         (has pass.now) (has goals.now) }
-    ensures is { Says (stage_count chained.now) result (λ s. T.Told.tells minutes
-        (tallied T.Tally.algebra chained.now.lists.moves.now (has pass.now) (has goals.now)
-        (stage_count chained.now) s)) }
-    ensures spent { Spent T.Tally.algebra.none (stage_count chained.now) table.old table.new }
+    ensures is { Says (stage_count paths.now) result (λ s. T.Told.tells minutes
+        (tallied T.Tally.algebra paths.now.moves.now (has pass.now) (has goals.now)
+        (stage_count paths.now) s)) }
+    ensures spent { Spent T.Tally.algebra.none (stage_count paths.now) table.old table.new }
 {
-    let n = chained.lists.stages.len();
-    tally_all(chained, &pass.words, &goals.words, table);
+    let n = paths.stages.len();
+    paths.tally_all(&pass.words, &goals.words, table);
     let entries = &*table;
     let holds = StageSet::of(
         n,

@@ -10,152 +10,146 @@ ghost use Rattle.sheet.specs.Sets.{has, stage_count, timed, Says, UntilSet};
 ghost use Rattle.sheet.specs.Told.{Spent, reaches};
 ghost use Rattle.sheet.specs.Tables.{AreReady, AreSpent, SameSlices};
 
+use crate::paths::Paths;
 use crate::stage_set::{StageSet, is_open};
 use crate::tables::Tables;
 use crate::told::tell;
-use settle::links::Chained;
 use tally::Reach;
 
 // Where there is a walk.
-fn reached(chained: &Chained, pass: &StageSet, goals: &StageSet, table: &mut [Reach]) -> StageSet
-    requires room { 4 * stage_count chained.now ≤ length table.old }
-    ensures is { Says (stage_count chained.now) result (λ s. reaches 0
-        (tallied reach_algebra chained.now.lists.moves.now (has pass.now) (has goals.now)
-        (stage_count chained.now) s)) }
-    ensures spent { Spent reach_algebra.none (stage_count chained.now) table.old table.new }
+fn reached(paths: &Paths, pass: &StageSet, goals: &StageSet, table: &mut [Reach]) -> StageSet
+    requires room { 4 * stage_count paths.now ≤ length table.old }
+    ensures is { Says (stage_count paths.now) result (λ s. reaches 0
+        (tallied reach_algebra paths.now.moves.now (has pass.now) (has goals.now)
+        (stage_count paths.now) s)) }
+    ensures spent { Spent reach_algebra.none (stage_count paths.now) table.old table.new }
 {
-    tell(chained, pass, goals, 0, table)
+    tell(paths, pass, goals, 0, table)
 }
 
 // Silent, or f.
-fn passes(chained: &Chained, f: &StageSet) -> StageSet
-    ensures { Says (stage_count chained.now) result
-        (λ s. non (open? (timed chained.now) s) or has f.now s) }
+fn passes(paths: &Paths, f: &StageSet) -> StageSet
+    ensures { Says (stage_count paths.now) result
+        (λ s. non (open? (timed paths.now) s) or has f.now s) }
 {
-    StageSet::of(chained.lists.stages.len(), |s| {
-        !is_open(chained, s) || f.has(s)
-    })
+    StageSet::of(paths.stages.len(), |s| { !is_open(paths, s) || f.has(s) })
 }
 
 // Silent, or not g.
-fn misses(chained: &Chained, g: &StageSet) -> StageSet
-    ensures { Says (stage_count chained.now) result
-        (λ s. non (open? (timed chained.now) s and has g.now s)) }
+fn misses(paths: &Paths, g: &StageSet) -> StageSet
+    ensures { Says (stage_count paths.now) result
+        (λ s. non (open? (timed paths.now) s and has g.now s)) }
 {
-    StageSet::of(chained.lists.stages.len(), |s| {
-        !is_open(chained, s) || !g.has(s)
-    })
+    StageSet::of(paths.stages.len(), |s| { !is_open(paths, s) || !g.has(s) })
 }
 
 // Open, not f, not g.
-fn breaks(chained: &Chained, f: &StageSet, g: &StageSet) -> StageSet
-    ensures { Says (stage_count chained.now) result
-        (λ s. open? (timed chained.now) s and (non (has f.now s) and non (has g.now s))) }
+fn breaks(paths: &Paths, f: &StageSet, g: &StageSet) -> StageSet
+    ensures { Says (stage_count paths.now) result
+        (λ s. open? (timed paths.now) s and (non (has f.now s) and non (has g.now s))) }
 {
-    StageSet::of(chained.lists.stages.len(), |s| {
-        is_open(chained, s) && !f.has(s) && !g.has(s)
+    StageSet::of(paths.stages.len(), |s| {
+        is_open(paths, s) && !f.has(s) && !g.has(s)
     })
 }
 
 // Where E[f U<=c g] holds.
 pub(crate) fn some_most(
-    chained: &Chained,
+    paths: &Paths,
     f: &StageSet,
     c: u32,
     g: &StageSet,
     tables: &mut Tables,
 ) -> StageSet
     requires small { c ≤ largest_number }
-    requires ready { AreReady (stage_count chained.now) tables.old }
-    ensures is { UntilSet some_list chained.now f.now (most c) g.now result }
-    ensures spent { AreSpent (stage_count chained.now) tables.old tables.new }
+    requires ready { AreReady (stage_count paths.now) tables.old }
+    ensures is { UntilSet some_list paths.now f.now (most c) g.now result }
+    ensures spent { AreSpent (stage_count paths.now) tables.old tables.new }
     ensures slices { SameSlices tables.old tables.new }
 {
-    let n = chained.lists.stages.len();
-    let pass = passes(chained, f);
-    let soon = tell(chained, &pass, g, c, tables.shortest);
-    StageSet::of(n, |s| is_open(chained, s) && soon.has(s))
+    let n = paths.stages.len();
+    let pass = passes(paths, f);
+    let soon = tell(paths, &pass, g, c, tables.shortest);
+    StageSet::of(n, |s| is_open(paths, s) && soon.has(s))
 }
 
 // Where E[f U>=c g] holds.
 pub(crate) fn some_least(
-    chained: &Chained,
+    paths: &Paths,
     f: &StageSet,
     c: u32,
     g: &StageSet,
     tables: &mut Tables,
 ) -> StageSet
     requires small { c ≤ largest_number }
-    requires ready { AreReady (stage_count chained.now) tables.old }
-    ensures is { UntilSet some_list chained.now f.now (least c) g.now result }
-    ensures spent { AreSpent (stage_count chained.now) tables.old tables.new }
+    requires ready { AreReady (stage_count paths.now) tables.old }
+    ensures is { UntilSet some_list paths.now f.now (least c) g.now result }
+    ensures spent { AreSpent (stage_count paths.now) tables.old tables.new }
     ensures slices { SameSlices tables.old tables.new }
 {
-    let n = chained.lists.stages.len();
-    let pass = passes(chained, f);
-    let led = reached(chained, &pass, g, tables.reached);
-    let ever = StageSet::of(n, |s| pass.has(s) && led.has(s)).endless(chained);
+    let n = paths.stages.len();
+    let pass = passes(paths, f);
+    let led = reached(paths, &pass, g, tables.reached);
+    let ever = StageSet::of(n, |s| pass.has(s) && led.has(s)).endless(paths);
     let rest = pass.without(n, &ever);
-    let long = tell(chained, &rest, g, c, tables.longest);
-    StageSet::of(n, |s| {
-        is_open(chained, s) && (ever.has(s) || long.has(s))
-    })
+    let long = tell(paths, &rest, g, c, tables.longest);
+    StageSet::of(n, |s| { is_open(paths, s) && (ever.has(s) || long.has(s)) })
 }
 
 // Where A[f U<=c g] holds.
 pub(crate) fn each_most(
-    chained: &Chained,
+    paths: &Paths,
     f: &StageSet,
     c: u32,
     g: &StageSet,
     tables: &mut Tables,
 ) -> StageSet
     requires small { c ≤ largest_number }
-    requires ready { AreReady (stage_count chained.now) tables.old }
-    ensures is { UntilSet each_list chained.now f.now (most c) g.now result }
-    ensures spent { AreSpent (stage_count chained.now) tables.old tables.new }
+    requires ready { AreReady (stage_count paths.now) tables.old }
+    ensures is { UntilSet each_list paths.now f.now (most c) g.now result }
+    ensures spent { AreSpent (stage_count paths.now) tables.old tables.new }
     ensures slices { SameSlices tables.old tables.new }
 {
-    let n = chained.lists.stages.len();
-    let missed = misses(chained, g);
-    let bad = breaks(chained, f, g);
-    let fails = reached(chained, &missed, &bad, tables.reached);
-    let ever = missed.endless(chained);
+    let n = paths.stages.len();
+    let missed = misses(paths, g);
+    let bad = breaks(paths, f, g);
+    let fails = reached(paths, &missed, &bad, tables.reached);
+    let ever = missed.endless(paths);
     let rest = missed.without(n, &ever);
     let all = StageSet::of(n, |_s| true);
-    let long = tell(chained, &rest, &all, c + 1, tables.longest);
+    let long = tell(paths, &rest, &all, c + 1, tables.longest);
     StageSet::of(n, |s| {
-        is_open(chained, s) && !(fails.has(s) || ever.has(s) || long.has(s))
+        is_open(paths, s) && !(fails.has(s) || ever.has(s) || long.has(s))
     })
 }
 
 // Where A[f U>=c g] holds.
 pub(crate) fn each_least(
-    chained: &Chained,
+    paths: &Paths,
     f: &StageSet,
     c: u32,
     g: &StageSet,
     tables: &mut Tables,
 ) -> StageSet
     requires small { c ≤ largest_number }
-    requires ready { AreReady (stage_count chained.now) tables.old }
-    ensures is { UntilSet each_list chained.now f.now (least c) g.now result }
-    ensures spent { AreSpent (stage_count chained.now) tables.old tables.new }
+    requires ready { AreReady (stage_count paths.now) tables.old }
+    ensures is { UntilSet each_list paths.now f.now (least c) g.now result }
+    ensures spent { AreSpent (stage_count paths.now) tables.old tables.new }
     ensures slices { SameSlices tables.old tables.new }
 {
-    let n = chained.lists.stages.len();
-    let missed = misses(chained, g);
-    let bad = breaks(chained, f, g);
-    let fails = reached(chained, &missed, &bad, tables.reached);
-    let ever = missed.endless(chained);
+    let n = paths.stages.len();
+    let missed = misses(paths, g);
+    let bad = breaks(paths, f, g);
+    let fails = reached(paths, &missed, &bad, tables.reached);
+    let ever = missed.endless(paths);
     let doomed = StageSet::of(n, |s| fails.has(s) || ever.has(s));
-    let pass = passes(chained, f);
-    let sources = doomed.sources(chained);
+    let pass = passes(paths, f);
+    let sources = doomed.sources(paths);
     let goals = StageSet::of(n, |s| {
-        is_open(chained, s) && !f.has(s) || pass.has(s) && sources.has(s)
+        is_open(paths, s) && !f.has(s) || pass.has(s) && sources.has(s)
     });
-    let soon = tell(chained, &pass, &goals, c.saturating_sub(1), tables.shortest);
+    let soon = tell(paths, &pass, &goals, c.saturating_sub(1), tables.shortest);
     StageSet::of(n, |s| {
-        is_open(chained, s) && !(doomed.has(s) || c > 0 && soon.has(s))
+        is_open(paths, s) && !(doomed.has(s) || c > 0 && soon.has(s))
     })
 }

@@ -32,22 +32,22 @@ left_rests stages moves within set few e =
 
 pub returns : goal.returns
 returns c =
-    let stages = c.args.chained.now.lists.stages.now in
-    let moves = c.args.chained.now.lists.moves.now in
-    let linked = c.args.chained.now.linked.leaves in
+    let stages = c.args.paths.now.stages.now in
+    let moves = c.args.paths.now.moves.now in
+    let paths = c.args.paths.now in
     let set = c.keep_endless.new.set in
     let found = c.in_ok-first.ensures in
-    cycle_if stages moves linked.within (among set)
-    (left_rests stages moves linked.within set linked.few_stages c.keep_endless.ensures.left)
+    cycle_if stages moves paths.within (among set)
+    (left_rests stages moves paths.within set paths.few c.keep_endless.ensures.left)
     c.in_ok-first.first found.0 found.1 c.follow.result c.follow.ensures
 
 pub returns-in_err-first : goal.returns-in_err-first
 returns-in_err-first c =
-    let stages = c.args.chained.now.lists.stages.now in
-    let moves = c.args.chained.now.lists.moves.now in
-    let linked = c.args.chained.now.linked.leaves in
+    let stages = c.args.paths.now.stages.now in
+    let moves = c.args.paths.now.moves.now in
+    let paths = c.args.paths.now in
     let set = c.keep_endless.new.set in
     subst (CycleFound (prog stages moves)) (sym c.from_residual.ensures)
-    (no_cycle stages moves linked.within
-    (λ s l. sym (left_rests stages moves linked.within set linked.few_stages c.keep_endless.ensures.left s l)
+    (no_cycle stages moves paths.within
+    (λ s l. sym (left_rests stages moves paths.within set paths.few c.keep_endless.ensures.left s l)
     ∙ c.in_err-first.ensures s l))

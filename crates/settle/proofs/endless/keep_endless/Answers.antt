@@ -1,12 +1,26 @@
+use Rattle.std.proofs.Common.{◌≡◌, sym, subst}
+use Rattle.program.specs.Graphs.{graph_of}
+use Rattle.tally.specs.Walks.{among}
+use Rattle.tally.specs.Rounds.{Within}
+use Rattle.tctl.specs.Checker.{endless}
+use Rattle.settle.specs.Rows.{row, sort_of}
+use Rattle.settle.specs.Removals.{WatchingBelow}
 use Rattle.settle.proofs.Greatest.{endless_left}
 use Rattle.settle.proofs.endless.keep_endless.Goals as goal
 
 pub returns : goal.returns
 returns c =
     let chained = c.args.chained.now in
+    let moves = chained.moves.now in
+    let sort = c.args.sort in
+    let was = c.args.set.now in
+    let after = c.of-removal.new.set in
     let r = c.of-removal.ensures in
     record {
-      left = endless_left chained.lists.stages.now chained.lists.moves.now chained.linked.leaves.within c.args.sort
-          c.args.set.now c.of-removal.new.set c.of-removal.result r.shrinks r.watching;
+      left = λ stages many.
+          subst (λ n. row n after ≡ endless (graph_of stages moves) (sort_of sort) (row n was) n) many
+          (endless_left stages moves (subst (λ n. Within n moves) (sym many) chained.linked.leaves.within) sort
+          was after c.of-removal.result r.shrinks
+          (subst (λ n. WatchingBelow n sort moves (among after) (λ k. ⊥) c.of-removal.result) (sym many) r.watching));
       above = r.rest;
     }

@@ -6,10 +6,10 @@ use Rattle.sheet.proofs.sheets.add_line.Goals as goal
 
 pub returns-clause-added : goal.returns-clause-added
 returns-clause-added c =
-    let n = stage_count c.args.chained.now in
+    let n = stage_count c.args.paths.now in
     let sheet = c.args.sheet.now in
     λ s h.
     c.write_column.ensures.written s h
     ∙ ap (λ b. get_or sheet s 0 + cond b (2 ^ c.args.k) 0)
-    (in_row n c.line_set-holds.result.words (line_list (timed c.args.chained.now) (column n sheet) c.args.line)
+    (in_row n c.line_set-holds.result.words (line_list (timed c.args.paths.now) (column n sheet) c.args.line)
     c.line_set-holds.ensures.is s h)

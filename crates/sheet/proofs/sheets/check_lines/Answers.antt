@@ -14,9 +14,9 @@ use Rattle.sheet.proofs.sheets.check_lines.Goals as goal
 
 pub loop-k-preserved : goal.loop-k-preserved
 loop-k-preserved c =
-    let chained = c.args.chained.now in
-    let p = timed chained in
-    let n = stage_count chained in
+    let paths = c.args.paths.now in
+    let p = timed paths in
+    let n = stage_count paths in
     let lines = c.args.lines.now in
     let k = c.loop-k.k in
     let was = c.loop-k.sheet in
@@ -29,7 +29,7 @@ loop-k-preserved c =
           ⊎_elim
           (λ e.
           ap (column n after) e ∙ column_new n k was after L new.added c.loop-k.invariant.1
-          ∙ table_stages (at L) chained.lists.stages.now
+          ∙ table_stages (at L) paths.stages.now
           ∙ column_is p lines k (column n was) c.loop-k-test.true formed done
           ∙ ap (λ x. where_holds p (rule_at lines x)) (sym e))
           (λ ne. column_kept n k was after L new.added j (omega arith) ∙ done j (omega arith))
@@ -42,8 +42,8 @@ loop-k-preserved c =
 
 pub returns-clause-names : goal.returns-clause-names
 returns-clause-names c =
-    let p = timed c.args.chained.now in
-    let n = stage_count c.args.chained.now in
+    let p = timed c.args.paths.now in
+    let n = stage_count c.args.paths.now in
     let lines = c.args.lines.now in
     let after = c.loop-k.sheet in
     let ends : c.loop-k.k ≡ length lines = omega arith in

@@ -10,8 +10,8 @@ use Rattle.sheet.proofs.sheets.check_lines.Given as goal
 -- the columns of the lines before k are right, and no other bit is set
 abbrev pub invariant-loop-k : goal.invariant-loop-k
 invariant-loop-k l =
-    let n = stage_count l.chained in
-    ((j : ℕ) → j < l.k → column n l.sheet j ≡ where_holds (timed l.chained) (rule_at l.lines j))
+    let n = stage_count l.paths in
+    ((j : ℕ) → j < l.k → column n l.sheet j ≡ where_holds (timed l.paths) (rule_at l.lines j))
     × Below n l.k l.sheet
     × RestKept n l.initial.sheet l.sheet
     × AreSpent n l.initial.tables l.tables

@@ -9,66 +9,66 @@ use Rattle.sheet.proofs.sheets.line_set.Goals as goal
 
 pub returns-in-One-clause-is : goal.returns-in-One-clause-is
 returns-in-One-clause-is c =
-    let chained = c.args.chained.now in
-    let p = timed chained in
-    let n = stage_count chained in
+    let paths = c.args.paths.now in
+    let p = timed paths in
+    let n = stage_count paths in
     let sheet = c.args.sheet.now in
-    row_stages chained.lists.stages.now c.of.result.words (λ (s : ℕ). open? p s)
+    row_stages paths.stages.now c.of.result.words (λ (s : ℕ). open? p s)
     (λ s h. let e = c.of.ensures s h in search rules)
     ∙ ap (line_list p (column n sheet)) (sym c.in-One.is)
 
 pub returns-in-Letter-clause-is : goal.returns-in-Letter-clause-is
 returns-in-Letter-clause-is c =
-    let chained = c.args.chained.now in
-    let p = timed chained in
+    let paths = c.args.paths.now in
+    let p = timed paths in
     let letter = c.in-Letter.letter in
-    let n = stage_count chained in
-    row_stages chained.lists.stages.now c.of-in-Letter.result.words (λ (s : ℕ). open? p s and marked p s letter)
+    let n = stage_count paths in
+    row_stages paths.stages.now c.of-in-Letter.result.words (λ (s : ℕ). open? p s and marked p s letter)
     (λ s h. let e = c.of-in-Letter.ensures s h in search rules)
     ∙ ap (line_list p (column n c.args.sheet.now)) (sym c.in-Letter.is)
 
 pub returns-in-Not-clause-is : goal.returns-in-Not-clause-is
 returns-in-Not-clause-is c =
-    let chained = c.args.chained.now in
-    let p = timed chained in
+    let paths = c.args.paths.now in
+    let p = timed paths in
     let i = c.in-Not.i in
-    let col = column (stage_count chained) c.args.sheet.now in
+    let col = column (stage_count paths) c.args.sheet.now in
     let holds = c.of-in-Not.result in
-    row_stages chained.lists.stages.now holds.words (λ (s : ℕ). open? p s and non (at (col i) s))
+    row_stages paths.stages.now holds.words (λ (s : ℕ). open? p s and non (at (col i) s))
     (λ s h.
     let e : has holds s ≡ (open? p s and non (bit i (get_or c.args.sheet.now s 0))) =
     (let o = c.of-in-Not.ensures s h in search rules) in
-    e ∙ ap (λ x. open? p s and non x) (column_at (stage_count chained) c.args.sheet.now i s h))
+    e ∙ ap (λ x. open? p s and non x) (column_at (stage_count paths) c.args.sheet.now i s h))
     ∙ ap (line_list p col) (sym c.in-Not.is)
 
 pub returns-in-And-clause-is : goal.returns-in-And-clause-is
 returns-in-And-clause-is c =
-    let chained = c.args.chained.now in
-    let p = timed chained in
+    let paths = c.args.paths.now in
+    let p = timed paths in
     let i = c.in-And.i in
     let j = c.in-And.j in
     let sheet = c.args.sheet.now in
-    let col = column (stage_count chained) sheet in
+    let col = column (stage_count paths) sheet in
     let holds = c.of-in-And.result in
-    row_stages chained.lists.stages.now holds.words (λ (s : ℕ). at (col i) s and at (col j) s)
+    row_stages paths.stages.now holds.words (λ (s : ℕ). at (col i) s and at (col j) s)
     (λ s h.
     let e : has holds s ≡ (bit i (get_or sheet s 0) and bit j (get_or sheet s 0)) =
     (let o = c.of-in-And.ensures s h in search rules) in
-    e ∙ columns_at (stage_count chained) sheet ◌and◌ i j s h)
+    e ∙ columns_at (stage_count paths) sheet ◌and◌ i j s h)
     ∙ ap (line_list p col) (sym c.in-And.is)
 
 pub returns-in-Or-clause-is : goal.returns-in-Or-clause-is
 returns-in-Or-clause-is c =
-    let chained = c.args.chained.now in
-    let p = timed chained in
+    let paths = c.args.paths.now in
+    let p = timed paths in
     let i = c.in-Or.i in
     let j = c.in-Or.j in
     let sheet = c.args.sheet.now in
-    let col = column (stage_count chained) sheet in
+    let col = column (stage_count paths) sheet in
     let holds = c.of-in-Or.result in
-    row_stages chained.lists.stages.now holds.words (λ (s : ℕ). at (col i) s or at (col j) s)
+    row_stages paths.stages.now holds.words (λ (s : ℕ). at (col i) s or at (col j) s)
     (λ s h.
     let e : has holds s ≡ (bit i (get_or sheet s 0) or bit j (get_or sheet s 0)) =
     (let o = c.of-in-Or.ensures s h in search rules) in
-    e ∙ columns_at (stage_count chained) sheet ◌or◌ i j s h)
+    e ∙ columns_at (stage_count paths) sheet ◌or◌ i j s h)
     ∙ ap (line_list p col) (sym c.in-Or.is)

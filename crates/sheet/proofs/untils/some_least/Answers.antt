@@ -6,7 +6,7 @@ use Rattle.sheet.proofs.untils.some_least.Goals as goal
 
 pub tell-long-requires-clause-settles : goal.tell-long-requires-clause-settles
 tell-long-requires-clause-settles c =
-    led_settled c.args.chained.now (has c.of.result) (has c.endless-ever.result) (has c.without-rest.result)
+    led_settled c.args.paths.now (has c.of.result) (has c.endless-ever.result) (has c.without-rest.result)
     (has c.args.g.now) c.endless-ever.ensures (has c.passes-pass.result)
     c.without-rest.ensures
     (has c.reached-led.result)
@@ -15,7 +15,7 @@ tell-long-requires-clause-settles c =
 
 pub returns-clause-is : goal.returns-clause-is
 returns-clause-is c =
-    some_least_set c.args.chained.now c.args.f.now c.args.g.now c.args.c (omega arith) (has c.passes-pass.result)
+    some_least_set c.args.paths.now c.args.f.now c.args.g.now c.args.c (omega arith) (has c.passes-pass.result)
     (has c.reached-led.result) (has c.of.result) (has c.endless-ever.result) (has c.without-rest.result)
     (has c.tell-long.result) (has c.of-2.result)
     c.passes-pass.ensures

@@ -5,11 +5,11 @@ use Rattle.sheet.proofs.Settled.{short_settled}
 use Rattle.sheet.proofs.untils.some_most.Goals as goal
 
 pub tell-soon-requires-clause-settles : goal.tell-soon-requires-clause-settles
-tell-soon-requires-clause-settles c = short_settled c.args.chained.now _ _
+tell-soon-requires-clause-settles c = short_settled c.args.paths.now _ _
 
 pub returns-clause-is : goal.returns-clause-is
 returns-clause-is c =
-    some_most_set c.args.chained.now c.args.f.now c.args.g.now c.args.c (omega arith) (has c.passes-pass.result)
+    some_most_set c.args.paths.now c.args.f.now c.args.g.now c.args.c (omega arith) (has c.passes-pass.result)
     (has c.tell-soon.result) (has c.of.result)
     c.passes-pass.ensures
     c.tell-soon.ensures.is

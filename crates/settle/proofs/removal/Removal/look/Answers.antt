@@ -21,12 +21,12 @@ loop-link-preserved c =
     let k = c.from-k.result in
     let stage = c.from-stage.result in
     let leaves : stage ≡ end_at Leaves moves k = c.from-stage.ensures in
-    let next = link_at p.chains.enters.next k in
+    let next = link_at p.chains.now.enters.next k in
     let inv = c.loop-link.invariant in
     let r = c.loop-link.self in
     let was = c.loop-link.set in
     let s =
-    step Enters n moves p.chains.enters p.linked.enters gone link inv.0 c.in-Some.number k c.in-Some.is
+    step Enters n moves p.chains.now.enters p.linked.enters gone link inv.0 c.in-Some.number k c.in-Some.is
     c.from-k.ensures in
     let Still : Removal → ℕ → Type 0 = λ q j. Due p q j ⊎ ((end_at Enters moves j ≡ gone) × (j < bound link)) in
     let Next : Removal → ℕ → Type 0 = λ q j. Due p q j ⊎ ((end_at Enters moves j ≡ gone) × (j < bound next)) in

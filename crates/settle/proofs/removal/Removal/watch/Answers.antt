@@ -13,7 +13,7 @@ returns-then-leads c =
     let moves = moves_of p in
     let inv = c.loop-link.invariant in
     let s =
-    step Leaves _ moves p.chains.leaves p.linked.leaves c.args.stage c.loop-link.link inv.from.reaches
+    step Leaves _ moves p.chains.now.leaves p.linked.leaves c.args.stage c.loop-link.link inv.from.reaches
     c.in-Some.number c.from-k.result c.in-Some.is c.from-k.ensures in
     let into = c.leads.ensures.0 c.if-leads.true in
     let None_past : ℕ → Type 0 = NoneAtOrPast c.args.sort moves (among c.args.set.now) c.args.stage in

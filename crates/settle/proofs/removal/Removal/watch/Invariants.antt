@@ -8,7 +8,7 @@ use Rattle.settle.proofs.removal.Removal.watch.Given as goal
 abbrev pub invariant-loop-link : goal.invariant-loop-link
 invariant-loop-link l = record {
   same : l.self ≡ l.initial.self;
-  from : From l.sort l.chained.lists.moves.now (among l.set) l.stage l.link;
+  from : From l.sort l.chained.moves.now (among l.set) l.stage l.link;
 }
 
 abbrev pub decreases-loop-link : goal.decreases-loop-link

@@ -16,7 +16,7 @@ returns-in_err-pour_back-clause-partly g c =
     let moves = walks.moves.now in
     let inv = c.loop-link.invariant in
     let s =
-    step Enters walks.stages moves c.args.self.now.chained.now.chains.enters c.args.self.now.linked c.args.stage
+    step Enters walks.stages moves c.args.self.now.chained.now.chains.now.enters c.args.self.now.linked c.args.stage
     c.loop-link.link inv.0 c.in-Some.number c.from-k.result c.in-Some.is c.from-k.ensures in
     partly_more K g.met.T.Tally.lawful walks.stages moves walks.within (among walks.pass.now) c.from-k.result s.real
     (entry K c.args.table.now) (entry K c.loop-link.table) (entry K c.pour_back.new.table)
@@ -32,7 +32,7 @@ loop-link-preserved g c =
     let pass = among walks.pass.now in
     let within = walks.within in
     let inv = c.loop-link.invariant in
-    let enters = c.args.self.now.chained.now.chains.enters in
+    let enters = c.args.self.now.chained.now.chains.now.enters in
     let stage = c.args.stage in
     let link = c.loop-link.link in
     let k = c.from-k.result in

@@ -5,29 +5,29 @@ use Rattle.program.specs.Meaning.{no_move, most_stages}
 use Rattle.program.specs.Graphs.{timed_move}
 use Rattle.tctl.specs.Checker.{any_move, into, ◌or◌, ◌and◌}
 use Rattle.sheet.specs.Sets.{has, listed, stage_count}
-use Rattle.sheet.proofs.Sets.{into_step, or_none, row_at}
+use Rattle.sheet.proofs.Sets.{into_add, or_none, row_at}
 use Rattle.sheet.proofs.stage_set.StageSet.sources.Goals as goal
 
 pub loop-m-init : goal.loop-m-init
 loop-m-init c =
-    let chained = c.args.chained.now in
-    let set = listed (stage_count chained) c.args.self.now in
-    λ s h. ap (λ b. ltb 0 b or into any_move (map timed_move chained.lists.moves.now) set s)
-    (get_or-replicate most_stages s 0 0 (omega (arith, chained.lists.joined.few_stages)))
+    let paths = c.args.paths.now in
+    let set = listed (stage_count paths) c.args.self.now in
+    λ s h. ap (λ b. ltb 0 b or into any_move (map timed_move paths.moves.now) set s)
+    (get_or-replicate most_stages s 0 0 (omega (arith, paths.few)))
 
 pub loop-m-preserved : goal.loop-m-preserved
 loop-m-preserved c =
-    let chained = c.args.chained.now in
-    let n = stage_count chained in
-    let moves = chained.lists.moves.now in
+    let paths = c.args.paths.now in
+    let n = stage_count paths in
+    let moves = paths.moves.now in
     let i = c.loop-m.m-index in
     let m : Move = get_or moves i no_move in
-    let ends = chained.linked.leaves.within i c.loop-m-test.true in
+    let ends = paths.within i c.loop-m-test.true in
     let set = listed n c.args.self.now in
     let was = c.loop-m.sources in
     let next = c.add_source.new.self in
     λ s h.
-    into_step set (timed_move m) (map timed_move (drop (i + 1) moves)) s (has was s) (has next s)
+    into_add any_move set (timed_move m) (map timed_move (drop (i + 1) moves)) s (has was s) (has next s)
     (c.add_source.ensures s
     ∙ ap (λ b. has was s or (eqb m.leaves s and b)) (sym (row_at n c.args.self.now.words m.enters ends.1)))
     ∙ ap (λ b. has was s or b)
@@ -37,12 +37,12 @@ loop-m-preserved c =
 
 pub returns : goal.returns
 returns c =
-    let chained = c.args.chained.now in
-    let set = listed (stage_count chained) c.args.self.now in
+    let paths = c.args.paths.now in
+    let set = listed (stage_count paths) c.args.self.now in
     let found = c.loop-m.sources in
     λ s h.
     sym (or_none (has found s))
     ∙ ap (λ b. has found s or b)
-    (sym (at_drop_all (λ (ms : List Move). into any_move (map timed_move ms) set s) chained.lists.moves.now
+    (sym (at_drop_all (λ (ms : List Move). into any_move (map timed_move ms) set s) paths.moves.now
     c.loop-m.m-index c.loop-m-test.false))
     ∙ c.loop-m.invariant s h

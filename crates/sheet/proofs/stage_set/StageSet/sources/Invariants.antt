@@ -7,8 +7,8 @@ use Rattle.sheet.proofs.stage_set.StageSet.sources.Given as goal
 -- with the moves that are left, each stage is in the set that is by all of them
 abbrev pub invariant-loop-m : goal.invariant-loop-m
 invariant-loop-m l =
-    let n = stage_count l.chained in
+    let n = stage_count l.paths in
     let set = listed n l.self in
-    let moves = l.chained.lists.moves.now in
+    let moves = l.paths.moves.now in
     (s : ℕ) → s < n → (has l.sources s or into any_move (map timed_move (drop l.m-index moves)) set s)
     ≡ into any_move (map timed_move moves) set s
