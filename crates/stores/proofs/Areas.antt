@@ -51,13 +51,17 @@ module _ {X : Type 0} (l : Layout X) where
       ∙ ap l.read (get_or-first_chunks l.width n i bs h)
 
 module _ {X : Type 0} (l : Layout X) (law : Lawful l) where
+  -- a record alone is read back
+  pub read_back : (x : X) → l.read (l.write x) ≡ x
+  read_back x = ap l.read (sym (append-nil (l.write x))) ∙ law.back x []
+
   pub in_use-bytes : (xs : List X) (rest : List ℕ) → in_use l (length xs) (bytes l xs ++ rest) ≡ xs
   in_use-bytes [] rest = refl
   in_use-bytes (x ∷ xs) rest =
       rw (
         append_assoc (l.write x) (bytes l xs) rest,
         take_at (l.write x) (bytes l xs ++ rest) l.width (law.wide x),
-        law.back x,
+        read_back x,
         drop_at (l.write x) (bytes l xs ++ rest) l.width (law.wide x),
         in_use-bytes xs rest,
       )

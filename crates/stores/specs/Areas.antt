@@ -27,10 +27,10 @@ pub record Layout (X : Type 0) : Type 0 where
   pub write : X → List ℕ
   pub read : List ℕ → X
 
--- Every record takes the layout's width, and is read back.
+-- Every record takes the layout's width, and is read back whatever lies behind it.
 pub record Lawful {X : Type 0} (l : Layout X) : Type 0 where
   pub wide : (x : X) → length (l.write x) ≡ l.width
-  pub back : (x : X) → l.read (l.write x) ≡ x
+  pub back : (x : X) (rest : List ℕ) → l.read (l.write x ++ rest) ≡ x
 
 -- records one after another
 abbrev pub bytes : {X : Type 0} → Layout X → List X → List ℕ

@@ -44,8 +44,8 @@ read_kind-kind_byte Silent = refl
 
 -- The bytes of a stage and of a move read back as that stage and that move.
 pub stage_lawful : Lawful stage_layout
-stage_lawful = record { wide = λ s. refl; back = λ s. rw (low_high_is s.marks, read_kind-kind_byte s.kind) }
+stage_lawful = record { wide = λ s. refl; back = λ s _. rw (low_high_is s.marks, read_kind-kind_byte s.kind) }
 
 pub move_lawful : Lawful move_layout
 move_lawful =
-    record { wide = λ m. refl; back = λ m. rw (low_high_is m.leaves, low_high_is m.minutes, low_high_is m.enters) }
+    record { wide = λ m. refl; back = λ m _. rw (low_high_is m.leaves, low_high_is m.minutes, low_high_is m.enters) }

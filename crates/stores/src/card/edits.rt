@@ -76,7 +76,7 @@ impl Store for Card {
     fn mark(&mut self, stage: usize, marks: u16) -> Result<usize, EditFault> {
         open_stage(self, stage)?;
         let stages = &mut self.stages;
-        set_marks(&mut stages.records[stage], marks);
+        set_marks(&mut stages.table.records[stage], marks);
         Ok(stage)
     }
 

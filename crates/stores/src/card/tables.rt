@@ -2,6 +2,7 @@
 ghost use Rattle.std.specs.Prelude.{◌≡◌, ◌<◌, ◌++◌, [], ◌∷◌, length, slice_set};
 ghost use Rattle.std.specs.List.{remove};
 
+use program::{Move, Stage};
 use std::marker::Model;
 
 pub const CARD_STAGES: usize = 64;
@@ -9,20 +10,30 @@ pub const CARD_STAGES: usize = 64;
 pub const CARD_MOVES: usize = 256;
 
 // A plain struct and no vector of a crate, of which `mark` lends a record: the form that the project asks for.
+#[derive(Clone, Copy)]
+pub struct Records<T: Copy, const N: usize> {
+    pub count: usize,
+    pub records: [T; N],
+}
+
+pub type StageTable = Records<Stage, CARD_STAGES>;
+
+pub type MoveTable = Records<Move, CARD_MOVES>;
+
+// A card's own records, which a contract sees as the list of those in use.
 #[derive(Drop)]
 pub(crate) struct Table<T: Copy, const N: usize> {
-    count: usize,
-    pub(crate) records: [T; N],
+    pub(crate) table: Records<T, N>,
 }
 
 impl<T: Copy, const N: usize> Model for Table<T, N> {
-    ghost use Rattle.std.specs.Prelude.{◌≤◌, List, take};
+    ghost use Rattle.std.specs.Prelude.{◌≡◌, ◌≤◌, List, length, take};
 
     ghost Value = { List T };
 
-    ghost view = { λ t. take t.count t.records };
+    ghost view = { λ t. take t.table.count t.table.records };
 
-    ghost invariant = { λ t. t.count ≤ N };
+    ghost invariant = { λ t. (length t.table.records ≡ N) × (t.table.count ≤ N) };
 }
 
 impl<T: Copy, const N: usize> Table<T, N> {
@@ -31,8 +42,10 @@ impl<T: Copy, const N: usize> Table<T, N> {
         ensures { result ≡ [] }
     {
         Table {
-            count: 0,
-            records: [none; N],
+            table: Records {
+                count: 0,
+                records: [none; N],
+            },
         }
     }
 
@@ -40,14 +53,14 @@ impl<T: Copy, const N: usize> Table<T, N> {
     pub(crate) fn count(&self) -> usize
         ensures { result ≡ length self.now }
     {
-        self.count
+        self.table.count
     }
 
     // The records in use.
     pub(crate) fn in_use(&self) -> &[T]
         ensures { result.now ≡ self.now }
     {
-        &self.records[..self.count]
+        &self.table.records[..self.table.count]
     }
 
     // Appends a record, and answers its number.
@@ -56,9 +69,9 @@ impl<T: Copy, const N: usize> Table<T, N> {
         ensures number { result ≡ length self.old }
         ensures appended { self.new ≡ self.old ++ added ∷ [] }
     {
-        let n = self.count;
-        self.records[n] = added;
-        self.count = n + 1;
+        let n = self.table.count;
+        self.table.records[n] = added;
+        self.table.count = n + 1;
         n
     }
 
@@ -67,7 +80,7 @@ impl<T: Copy, const N: usize> Table<T, N> {
         requires { k < length self.old }
         ensures { self.new ≡ slice_set self.old k new }
     {
-        let in_use = &mut self.records[..self.count];
+        let in_use = &mut self.table.records[..self.table.count];
         in_use[k] = new;
     }
 
@@ -76,7 +89,7 @@ impl<T: Copy, const N: usize> Table<T, N> {
         requires { k < length self.old }
         ensures { self.new ≡ remove self.old k }
     {
-        self.records.copy_within(k + 1..self.count, k);
-        self.count -= 1;
+        self.table.records.copy_within(k + 1..self.table.count, k);
+        self.table.count -= 1;
     }
 }

@@ -30,7 +30,7 @@ returns c =
     let s = c.args.stage in
     let m = c.args.marks in
     let table = c.stages in
-    let n = table.inside.count in
+    let n = table.inside.table.count in
     let marked = card_marked n s m _ card.stages card.moves _ table.view_is allowed.stage c.set_marks.ensures in
     let does = marks_one _ _ s m allowed.stage allowed.shown marked in
     record { does = does; tidy = does_tidy card_caps _ _ (edit.Mark s m) _ (λ _. does); kept = refl }

@@ -6,9 +6,9 @@ use Rattle.stores.proofs.card.tables.Table.take_out.Goals as goal
 
 pub returns : goal.returns
 returns g c =
-    let n = c.self.inside.count in
-    let xs = c.self.inside.records in
-    let inside : n ≤ length xs = omega (arith, c.self.invariant, c.self.told) in
+    let n = c.self.inside.table.count in
+    let xs = c.self.inside.table.records in
+    let inside : n ≤ length xs = omega (arith, c.self.invariant) in
     let below : c.args.k < n =
     omega (arith, ap length c.self.view_is, length-take-le n xs inside, c.requires) in
     ap (take (n - 1)) c.copy_within.ensures.after ∙ take_copied_removed xs n c.args.k below inside
