@@ -76,7 +76,7 @@ impl ChainedWalks<'_, '_, '_> {
         let had = table[leaves];
         let more = table[usize::from(m.enters)].before(m.minutes);
         let both = had.choice(more);
-        if had == both {
+        if had.same(both) {
             return Ok(());
         }
         table[leaves] = both;

@@ -13,7 +13,7 @@ ghost use Rattle.tally.specs.Algebras.{Algebra, Laws, most_sum, reach_algebra, m
 ghost use Rattle.std.proofs.Common.{rules};
 
 // What sums up walks. Its values are those of the type.
-pub trait Tally: Copy + PartialEq {
+pub trait Tally: Copy {
     ghost algebra: { Algebra Self };
 
     // Of no walk at all.
@@ -32,10 +32,11 @@ pub trait Tally: Copy + PartialEq {
     fn before(self, minutes: u16) -> Self
         ensures { result ≡ algebra.before minutes self };
 
-    ghost lawful: { Laws algebra };
+    // Whether the two values are one.
+    fn same(self, other: Self) -> bool
+        ensures { result ≡ true → self ≡ other };
 
-    // Values that compare as equal are one.
-    ghost exact: { (a b : Self) → Self.PartialEq.eq a b ≡ true → a ≡ b };
+    ghost lawful: { Laws algebra };
 }
 
 // Sums of minutes stop here.
@@ -65,8 +66,6 @@ impl Tally for Reach {
 
     ghost lawful = { Prim.search rules };
 
-    ghost exact = { Prim.search rules };
-
     fn none() -> Self {
         Reach(false)
     }
@@ -82,14 +81,16 @@ impl Tally for Reach {
     fn before(self, _minutes: u16) -> Self {
         self
     }
+
+    fn same(self, other: Self) -> bool {
+        self.0 == other.0
+    }
 }
 
 impl<const LONGEST: bool> Tally for Minutes<LONGEST> {
     ghost algebra = { minutes_algebra LONGEST };
 
     ghost lawful = { Prim.search rules };
-
-    ghost exact = { Prim.search rules };
 
     fn none() -> Self {
         Minutes(None)
@@ -109,5 +110,9 @@ impl<const LONGEST: bool> Tally for Minutes<LONGEST> {
 
     fn before(self, minutes: u16) -> Self {
         Minutes(self.0.map(|more| added(minutes, more)))
+    }
+
+    fn same(self, other: Self) -> bool {
+        self == other
     }
 }

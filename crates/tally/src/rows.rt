@@ -67,7 +67,10 @@ fn settle<T: Tally>(n: usize, table: &mut [T]) -> bool
         (n + s)) table.old }
 {
     let rows = &*table;
-    let still = rows[..n] == rows[n..2 * n];
+    let still = rows[..n]
+        .iter()
+        .zip(&rows[n..2 * n])
+        .all(|(now, next)| now.same(*next));
     table.copy_within(n..2 * n, 0);
     still
 }
