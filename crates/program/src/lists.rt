@@ -1,5 +1,5 @@
 // The two lists of a program as slices, and a copy of them, for which a readable program is asked once.
-ghost use Rattle.std.specs.Prelude.{◌≡◌, ℕ, ◌<◌, ◌≤◌, length, slice_index_or};
+ghost use Rattle.std.specs.Prelude.{◌≡◌, ℕ, ◌<◌, ◌≤◌, [], length, slice_index_or};
 ghost use Rattle.program.specs.Meaning.{Joined, Limits, prog};
 
 use crate::{MOST_MOVES, MOST_STAGES, Move, Program, Stage};
@@ -21,31 +21,44 @@ pub struct ProgramCopy {
     pub ghost limits: { Limits (prog stages.items moves.items) },
 }
 
-// Asks for so many records, for each once. A program is asked by number, so the loop counts.
-fn answers<T: Copy + Default, const N: usize, F: Fn(usize) -> T>(
+// Asks for so many records, for each once, into a vector that has none: where it stands, since it is large. A program is
+// asked by number, so the loop counts.
+fn ask_each<T: Copy + Default, const N: usize, F: Fn(usize) -> T>(
     count: usize,
     ask: F,
-) -> ArrayVec<T, N>
+    records: &mut ArrayVec<T, N>,
+)
+    requires none { records.old.items ≡ [] }
     requires room { count ≤ N }
     requires may { F.IsAlwaysCallable ask }
-    ensures all { length result.items ≡ count }
-    ensures each { (i : ℕ) → i < count → (none : T) → F.post ask i (slice_index_or result.items i none) }
+    ensures all { length records.new.items ≡ count }
+    ensures each { (i : ℕ) → i < count → (none : T) → F.post ask i (slice_index_or records.new.items i none) }
 {
-    let mut records = ArrayVec::new();
     for i in 0..count {
         records.push(ask(i));
     }
-    records
+}
+
+// A copy of the moves alone.
+pub fn copy_moves<P: Program>(program: &P) -> ArrayVec<Move, MOST_MOVES>
+    ensures { result.items ≡ (P.Program.meaning program.now).moves }
+{
+    let mut moves = ArrayVec::new();
+    ask_each(program.move_count(), |k| program.move_at(k), &mut moves);
+    moves
 }
 
 impl ProgramCopy {
     pub fn of<P: Program>(program: &P) -> ProgramCopy
         ensures { prog result.stages.items result.moves.items ≡ P.Program.meaning program.now }
     {
-        ProgramCopy {
-            stages: answers(program.stage_count(), |s| program.stage(s)),
-            moves: answers(program.move_count(), |k| program.move_at(k)),
-        }
+        let mut copy = ProgramCopy {
+            stages: ArrayVec::new(),
+            moves: ArrayVec::new(),
+        };
+        ask_each(program.stage_count(), |s| program.stage(s), &mut copy.stages);
+        ask_each(program.move_count(), |k| program.move_at(k), &mut copy.moves);
+        copy
     }
 
     pub fn lists(&self) -> Lists<'_>

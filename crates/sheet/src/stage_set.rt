@@ -21,11 +21,13 @@ impl StageSet {
         requires may { (s : ℕ) → s < n → F.pre test s }
         ensures { (s : ℕ) → s < n → F.post test s (has result s) }
     {
-        let mut words = [0u32; MOST_STAGES];
-        for (s, word) in words[..n].iter_mut().enumerate() {
+        let mut set = StageSet {
+            words: [0; MOST_STAGES],
+        };
+        for (s, word) in set.words[..n].iter_mut().enumerate() {
             *word = u32::from(test(s));
         }
-        StageSet { words }
+        set
     }
 
     pub fn has(&self, s: usize) -> bool

@@ -16,15 +16,15 @@ same_lists p ss ms ls lm hs hm =
 
 pub returns : goal.returns
 returns g c =
-    same_lists (g.P.Program.meaning c.args.program.now) c.answers.result.items c.answers-2.result.items
+    same_lists (g.P.Program.meaning c.args.program.now) c.ask_each.new.records.items c.ask_each-2.new.records.items
     (search rules) (search rules)
-    (λ i h. let e = c.answers.ensures.each i (omega (arith, h, c.stage_count.ensures)) no_stage in search rules)
-    (λ k h. let e = c.answers-2.ensures.each k (omega (arith, h, c.move_count.ensures)) no_move in search rules)
+    (λ i h. let e = c.ask_each.ensures.each i (omega (arith, h, c.stage_count.ensures)) no_stage in search rules)
+    (λ k h. let e = c.ask_each-2.ensures.each k (omega (arith, h, c.move_count.ensures)) no_move in search rules)
 
-pub invariant_of-result : goal.invariant_of-result
-invariant_of-result g c =
-    rw (same_lists (g.P.Program.meaning c.args.program.now) c.answers.result.items c.answers-2.result.items
+pub invariant_of-copy : goal.invariant_of-copy
+invariant_of-copy g c =
+    rw (same_lists (g.P.Program.meaning c.args.program.now) c.ask_each.new.records.items c.ask_each-2.new.records.items
     (search rules) (search rules)
-    (λ i h. let e = c.answers.ensures.each i (omega (arith, h, c.stage_count.ensures)) no_stage in search rules)
-    (λ k h. let e = c.answers-2.ensures.each k (omega (arith, h, c.move_count.ensures)) no_move in search rules))
+    (λ i h. let e = c.ask_each.ensures.each i (omega (arith, h, c.stage_count.ensures)) no_stage in search rules)
+    (λ k h. let e = c.ask_each-2.ensures.each k (omega (arith, h, c.move_count.ensures)) no_move in search rules))
     (record { limits = g.met.P.Program.limits c.args.program.now })
