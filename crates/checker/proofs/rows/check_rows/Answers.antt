@@ -1,19 +1,24 @@
 use Rattle.std.proofs.Common.{◌≡◌, ℕ, ◌<◌, ◌≤◌, length, sym, refl, subst, ◌∙◌, arith}
+use Rattle.program.specs.declared.lists.Lists.{Lists}
 use Rattle.program.specs.Meaning.{Prog, prog}
 use Rattle.program.specs.Graphs.{graph}
 use Rattle.tctl.specs.Runs.{Sound}
+use Rattle.sheet.specs.declared.paths.Paths.{Paths}
 use Rattle.sheet.specs.Tables.{HaveRoom, AreSpent}
 use Rattle.sheet.specs.Sheets.{Names}
 use Rattle.checker.specs.Outcomes.{held, Cycle}
 use Rattle.checker.proofs.Finds.{sound_if, enough_if, short_if}
 use Rattle.checker.proofs.rows.check_rows.Goals as goal
 
+-- Paths of the same two slices are of the same program.
+one_program : (paths : Paths) (lists : Lists) → paths.stages ≡ lists.stages → paths.moves ≡ lists.moves
+    → prog paths.stages.now paths.moves.now ≡ prog lists.stages.now lists.moves.now
+one_program paths lists stages moves i = prog (stages i).now (moves i).now
+
 pub returns-in-Some-still_stage-clause-does : goal.returns-in-Some-still_stage-clause-does
 returns-in-Some-still_stage-clause-does c =
     let lists = c.args.lists.now in
-    let paths = c.of-paths.result in
-    let same : prog paths.stages.now paths.moves.now ≡ prog lists.stages.now lists.moves.now = λ i.
-    prog (c.of-paths.ensures.stages i).now (c.of-paths.ensures.moves i).now in
+    let same = one_program c.of-paths.result lists c.of-paths.ensures.stages c.of-paths.ensures.moves in
     let found = subst (λ (p : Prog). (c.in-Some-still_stage.s < length p.stages) × Cycle p c.in-Some-still_stage.s) same
     c.in-Some-still_stage.ensures in
     ((c.in_default.ensures, found.0, found.1), refl)
@@ -21,9 +26,7 @@ returns-in-Some-still_stage-clause-does c =
 pub returns-then-not-has_room-clause-does : goal.returns-then-not-has_room-clause-does
 returns-then-not-has_room-clause-does c =
     let lists = c.args.lists.now in
-    let paths = c.of-paths.result in
-    let same : prog paths.stages.now paths.moves.now ≡ prog lists.stages.now lists.moves.now = λ i.
-    prog (c.of-paths.ensures.stages i).now (c.of-paths.ensures.moves i).now in
+    let same = one_program c.of-paths.result lists c.of-paths.ensures.stages c.of-paths.ensures.moves in
     let still = subst (λ (p : Prog). (s : ℕ) → Cycle p s → ⊥) same c.in_default-still_stage.ensures in
     let was = held c.args.sheet.now c.args.tables.now in (
       (
@@ -36,9 +39,7 @@ returns-then-not-has_room-clause-does c =
 pub check_lines-requires : goal.check_lines-requires
 check_lines-requires c =
     let lists = c.args.lists.now in
-    let paths = c.of-paths.result in
-    let same : prog paths.stages.now paths.moves.now ≡ prog lists.stages.now lists.moves.now = λ i.
-    prog (c.of-paths.ensures.stages i).now (c.of-paths.ensures.moves i).now in
+    let same = one_program c.of-paths.result lists c.of-paths.ensures.stages c.of-paths.ensures.moves in
     let still = subst (λ (p : Prog). (s : ℕ) → Cycle p s → ⊥) same c.in_default-still_stage.ensures in
     let was = held c.args.sheet.now c.args.tables.now in
     let enough = enough_if (length lists.stages.now) was (sym c.has_room.ensures ∙ c.if-not-has_room.false) in
@@ -58,9 +59,7 @@ check_lines-requires c =
 pub returns-clause-does : goal.returns-clause-does
 returns-clause-does c =
     let lists = c.args.lists.now in
-    let paths = c.of-paths.result in
-    let same : prog paths.stages.now paths.moves.now ≡ prog lists.stages.now lists.moves.now = λ i.
-    prog (c.of-paths.ensures.stages i).now (c.of-paths.ensures.moves i).now in
+    let same = one_program c.of-paths.result lists c.of-paths.ensures.stages c.of-paths.ensures.moves in
     let still = subst (λ (p : Prog). (s : ℕ) → Cycle p s → ⊥) same c.in_default-still_stage.ensures in
     let all = c.check_lines.ensures in
     let was = held c.args.sheet.now c.args.tables.now in
