@@ -8,7 +8,6 @@ ghost use Rattle.checker.specs.Found.{enough?, DeadFound};
 
 use crate::faults::CheckFault;
 use crate::tests::{dead_end, still_stage};
-use program::Move;
 use program::lists::Lists;
 use rules::line::Line;
 use settle::links::{Chained, Chains};
@@ -77,14 +76,16 @@ fn check_chained(
     check_paths(&Paths::along(lists.stages, chained), lines, sheet, tables)
 }
 
-// So few moves are gone over again and again in less time than it takes to chain them.
-const FEW_MOVES: usize = 24;
+// So many steps take no more time than it takes to make a queue.
+const FEW_STEPS: usize = 2500;
 
-// Whether chains pay: moves are many, and an until, or the search for a cycle of moves that take no time, goes along them.
-fn chains_pay(moves: &[Move], lines: &[Line]) -> bool {
-    moves.len() > FEW_MOVES
+// Whether chains pay: an until, or the search for a cycle of moves that take no time, goes along them, and rounds, at
+// most as many as stages and each over all moves and stages, could be long.
+fn chains_pay(lists: &Lists, lines: &[Line]) -> bool {
+    let stages = lists.stages.len();
+    stages * (lists.moves.len() + 2 * stages) > FEW_STEPS
         && (lines.iter().any(|line| matches!(line, Line::Until { .. }))
-            || moves.iter().any(|m| m.minutes == 0))
+            || lists.moves.iter().any(|m| m.minutes == 0))
 }
 
 // The check of lines, each of which may stand where it does.
@@ -106,7 +107,7 @@ pub(crate) fn check_rows(
     if let Some(s) = dead_end(lists.stages, lists.moves) {
         return Err(CheckFault::DeadEnd(s));
     }
-    if chains_pay(lists.moves, lines) {
+    if chains_pay(lists, lines) {
         return check_chained(lists, lines, sheet, tables);
     }
     check_paths(&Paths::of(lists.stages, lists.moves), lines, sheet, tables)

@@ -1,7 +1,8 @@
 // Sets of stages.
-ghost use Rattle.std.specs.Prelude.{◌≡◌, ℕ, ◌<◌, ◌≤◌, ◌==◌};
+ghost use Rattle.std.specs.Prelude.{◌≡◌, ℕ, ◌<◌, ◌≤◌, ◌==◌, length};
 ghost use Rattle.tctl.specs.Checker.{any_move, endless, into, open?, non, ◌and◌, ◌or◌};
 ghost use Rattle.program.specs.Meaning.{most_stages};
+ghost use Rattle.tally.specs.Walks.{among};
 ghost use Rattle.sheet.specs.Sets.{has, listed, stage_count, timed, Says};
 
 use crate::paths::Paths;
@@ -14,6 +15,17 @@ pub(crate) struct StageSet {
     pub words: [u32; MOST_STAGES],
 }
 
+// Writes of each of the first n stages whether a test is true: where the words stand, since they are many.
+fn write_words<F: Fn(usize) -> bool>(n: usize, test: F, words: &mut [u32])
+    requires room { n ≤ length words.old }
+    requires may { (s : ℕ) → s < n → F.pre test s }
+    ensures { (s : ℕ) → s < n → F.post test s (among words.new s) }
+{
+    for (s, word) in words[..n].iter_mut().enumerate() {
+        *word = u32::from(test(s));
+    }
+}
+
 impl StageSet {
     // The first n stages of which a test is true.
     pub fn of<F: Fn(usize) -> bool>(n: usize, test: F) -> StageSet
@@ -24,9 +36,7 @@ impl StageSet {
         let mut set = StageSet {
             words: [0; MOST_STAGES],
         };
-        for (s, word) in set.words[..n].iter_mut().enumerate() {
-            *word = u32::from(test(s));
-        }
+        write_words(n, test, &mut set.words);
         set
     }
 
@@ -51,9 +61,9 @@ impl StageSet {
             ≡ endless (timed paths.now) any_move (listed (stage_count paths.now) self.now)
             (stage_count paths.now) }
     {
-        let mut words = self.words;
-        paths.keep_endless(Sort::Any, &mut words);
-        StageSet { words }
+        let mut part = *self;
+        paths.keep_endless(Sort::Any, &mut part.words);
+        part
     }
 
     // Adds the stage that a move leaves, if it enters another set.
