@@ -26,7 +26,8 @@ pub(crate) fn check_lines_of<P: Program>(
         (held sheet.old tables.old) (held sheet.new tables.new) result }
     ensures slices { SameSlices tables.old tables.new }
 {
-    let copy = ProgramCopy::of(program);
+    let mut copy = ProgramCopy::empty();
+    copy.ask(program);
     check_rows(&copy.lists(), lines, sheet, tables)
 }
 

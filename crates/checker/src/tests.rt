@@ -10,6 +10,9 @@ use program::{MOST_STAGES, Move, Stage};
 use settle::endless::Sort;
 use sheet::paths::Paths;
 
+// For so few stages the scan is sooner done.
+const FEW_STAGES: usize = 16;
+
 // Whether each of so many stages is left by a move, and they are no more than a program has: in one pass over the moves.
 fn all_left(stages: usize, moves: &[Move]) -> bool
     ensures { result ≡ true → (s : ℕ) → s < stages → LeftBefore moves.now (length moves.now) s }
@@ -28,7 +31,7 @@ fn all_left(stages: usize, moves: &[Move]) -> bool
 pub fn dead_end(stages: &[Stage], moves: &[Move]) -> Option<usize>
     ensures { DeadFound (prog stages.now moves.now) result }
 {
-    if all_left(stages.len(), moves) {
+    if stages.len() > FEW_STAGES && all_left(stages.len(), moves) {
         return None;
     }
     // Stages by moves, left by a label: the form that the project asks for here.

@@ -52,13 +52,30 @@ impl ProgramCopy {
     pub fn of<P: Program>(program: &P) -> ProgramCopy
         ensures { prog result.stages.items result.moves.items ≡ P.Program.meaning program.now }
     {
-        let mut copy = ProgramCopy {
+        let mut copy = ProgramCopy::empty();
+        copy.ask(program);
+        copy
+    }
+
+    // A copy of the program without stages.
+    pub fn empty() -> ProgramCopy
+        ensures stages { result.stages.items ≡ [] }
+        ensures moves { result.moves.items ≡ [] }
+    {
+        ProgramCopy {
             stages: ArrayVec::new(),
             moves: ArrayVec::new(),
-        };
-        ask_each(program.stage_count(), |s| program.stage(s), &mut copy.stages);
-        ask_each(program.move_count(), |k| program.move_at(k), &mut copy.moves);
-        copy
+        }
+    }
+
+    // Makes an empty copy one of a program, where it stands, since it is large.
+    pub fn ask<P: Program>(&mut self, program: &P)
+        requires stages { self.old.stages.items ≡ [] }
+        requires moves { self.old.moves.items ≡ [] }
+        ensures { prog self.new.stages.items self.new.moves.items ≡ P.Program.meaning program.now }
+    {
+        ask_each(program.stage_count(), |s| program.stage(s), &mut self.stages);
+        ask_each(program.move_count(), |k| program.move_at(k), &mut self.moves);
     }
 
     pub fn lists(&self) -> Lists<'_>

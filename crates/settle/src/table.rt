@@ -129,12 +129,15 @@ impl ChainedWalks<'_, '_, '_> {
 
     // Puts the goals into the queue, first those that are not to be passed. Between them it puts the stages from which
     // no walk is endless within the set to pass, each behind all those that its moves enter: so it comes out when what
-    // is said of those is settled, and need not come again.
-    fn line_up(&self, queue: &mut Queue) -> Result<(), Full>
+    // is said of those is settled, and need not come again. Where values stay, no stage comes again in any order.
+    fn line_up<T: Tally>(&self, queue: &mut Queue) -> Result<(), Full>
         ensures lined { Lined self.now.walks.stages queue.old → Lined self.now.walks.stages queue.new }
         ensures wait { OnOk result (AllWait self.now.walks.stages (among self.now.walks.goals.now) queue.new) }
     {
         let n = self.walks.stages;
+        if T::stays() {
+            return queue.put_all(n, self.walks.goals);
+        }
         let mut inner = [0; MOST_STAGES];
         let mut last = [0; MOST_STAGES];
         inner[..n].copy_from_slice(&self.walks.pass[..n]);
@@ -154,7 +157,7 @@ impl ChainedWalks<'_, '_, '_> {
     {
         let mut queue = Queue::empty();
         begin_row(0, self.walks.stages, self.walks.goals, table);
-        self.line_up(&mut queue)?;
+        self.line_up::<T>(&mut queue)?;
         self.flow(table, &mut queue)
     }
 }

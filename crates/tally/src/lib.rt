@@ -36,6 +36,12 @@ pub trait Tally: Copy {
     fn same(self, other: Self) -> bool
         ensures { result ≡ true → self ≡ other };
 
+    // Whether a value that is not none stays as it is, whatever is added to it: then the order in which a table is filled
+    // saves no time.
+    fn stays() -> bool {
+        false
+    }
+
     ghost lawful: { Laws algebra };
 }
 
@@ -68,6 +74,10 @@ impl Tally for Reach {
 
     fn none() -> Self {
         Reach(false)
+    }
+
+    fn stays() -> bool {
+        true
     }
 
     fn start() -> Self {

@@ -6,7 +6,7 @@ use crate::Tally;
 use crate::rows::tallies;
 use crate::walks::Walks;
 use program::Program;
-use program::lists::ProgramCopy;
+use program::lists::copy_moves;
 
 // Why a table is not filled, by the number of the refusal.
 #[derive(Clone, Copy, PartialEq, Eq, Debug)]
@@ -40,10 +40,10 @@ pub fn fill<T: Tally, P: Program>(
     if pass.len() < stages || goals.len() < stages || table.len() < 4 * stages {
         return Err(TallyFault::ShortMemory);
     }
-    let copy = ProgramCopy::of(program);
+    let moves = copy_moves(program);
     let walks = Walks {
         stages,
-        moves: copy.moves.as_slice(),
+        moves: moves.as_slice(),
         pass,
         goals,
     };

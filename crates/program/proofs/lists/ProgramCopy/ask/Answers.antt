@@ -3,7 +3,7 @@ use Rattle.std.proofs.lemmas.List.{ext_get_or}
 use Rattle.program.specs.declared.Stage.{Stage}
 use Rattle.program.specs.declared.Move.{Move}
 use Rattle.program.specs.Meaning.{Prog, prog, no_stage, no_move, stage_at, move_at}
-use Rattle.program.proofs.lists.ProgramCopy.of.Goals as goal
+use Rattle.program.proofs.lists.ProgramCopy.ask.Goals as goal
 
 -- The lists of a program are those of its stages and moves one by one.
 same_lists : (p : Prog) (ss : List Stage) (ms : List Move) → length ss ≡ length p.stages → length ms ≡ length p.moves
@@ -21,8 +21,8 @@ returns g c =
     (λ i h. let e = c.ask_each.ensures.each i (omega (arith, h, c.stage_count.ensures)) no_stage in search rules)
     (λ k h. let e = c.ask_each-2.ensures.each k (omega (arith, h, c.move_count.ensures)) no_move in search rules)
 
-pub invariant_of-copy : goal.invariant_of-copy
-invariant_of-copy g c =
+pub invariant_of-self : goal.invariant_of-self
+invariant_of-self g c =
     rw (same_lists (g.P.Program.meaning c.args.program.now) c.ask_each.new.records.items c.ask_each-2.new.records.items
     (search rules) (search rules)
     (λ i h. let e = c.ask_each.ensures.each i (omega (arith, h, c.stage_count.ensures)) no_stage in search rules)
