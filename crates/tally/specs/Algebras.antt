@@ -1,5 +1,5 @@
 -- What a tally is made of, its laws, and the three tallies: whether there is a walk, the least minutes, the most.
-use Rattle.std.specs.Prelude.{◌≡◌, ℕ, ◌+◌, Bool, true, false, cond, min, max, Option, Some, None}
+use Rattle.std.specs.Prelude.{◌≡◌, ◌≢◌, ℕ, ◌+◌, Bool, true, false, cond, min, max, Option, Some, None}
 use Rattle.tally.specs.declared.Reach.{Reach}
 use Rattle.tally.specs.declared.Minutes.{Minutes}
 
@@ -17,6 +17,10 @@ pub record Laws {A : Type 0} (K : Algebra A) : Type 0 where
   pub neutral : (a : A) → K.choice K.none a ≡ a
   pub before_choice : (d : ℕ) (a b : A) → K.before d (K.choice a b) ≡ K.choice (K.before d a) (K.before d b)
   pub before_none : (d : ℕ) → K.before d K.none ≡ K.none
+
+-- A value that is not none stays as it is, whatever is added to it.
+abbrev pub Stays : {A : Type 0} → Algebra A → Type 0
+Stays {A} K = (a b : A) → (a ≢ K.none) → K.choice a b ≡ a
 
 -- Sums of minutes stop here.
 abbrev pub most_sum : ℕ

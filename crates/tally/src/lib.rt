@@ -9,7 +9,7 @@ pub mod tables;
 pub mod walks;
 
 ghost use Rattle.std.specs.Prelude.{◌≡◌, ◌+◌, min, true};
-ghost use Rattle.tally.specs.Algebras.{Algebra, Laws, most_sum, reach_algebra, minutes_algebra};
+ghost use Rattle.tally.specs.Algebras.{Algebra, Laws, Stays, most_sum, reach_algebra, minutes_algebra};
 ghost use Rattle.std.proofs.Common.{rules};
 
 // What sums up walks. Its values are those of the type.
@@ -38,7 +38,9 @@ pub trait Tally: Copy {
 
     // Whether a value that is not none stays as it is, whatever is added to it: then the order in which a table is filled
     // saves no time.
-    fn stays() -> bool {
+    fn stays() -> bool
+        ensures { result ≡ true → Stays algebra }
+    {
         false
     }
 
@@ -76,10 +78,6 @@ impl Tally for Reach {
         Reach(false)
     }
 
-    fn stays() -> bool {
-        true
-    }
-
     fn start() -> Self {
         Reach(true)
     }
@@ -94,6 +92,10 @@ impl Tally for Reach {
 
     fn same(self, other: Self) -> bool {
         self.0 == other.0
+    }
+
+    fn stays() -> bool {
+        true
     }
 }
 
