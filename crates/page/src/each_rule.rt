@@ -1,5 +1,6 @@
 // The rules of a page: each is checked on the program and answered.
-ghost use Rattle.std.specs.Prelude.{◌≡◌, ◌+◌, ◌^◌, ◌<◌, min, if◌then◌else◌, is_ok, IfOk, string_bytes};
+ghost use Rattle.std.specs.Prelude.{◌≡◌, ◌+◌, ◌^◌, ◌<◌, min, if◌then◌else◌, is_ok, IfOk, OnErr};
+ghost use Rattle.std.specs.Io.{StartsWith};
 ghost use Rattle.page.specs.Console.{NextRule, Adds, AddsAll};
 
 use crate::answers::write_rule;
@@ -49,30 +50,36 @@ fn next_rule(bytes: &[u8]) -> Option<(&[u8], &[u8])>
     Some((text, rest))
 }
 
-// Checks a rule and appends its answer, which is given back too.
+// Checks a rule and appends its answer, which is given back too. Its text is made whole before, so that an error
+// appends nothing.
 fn answer_rule<P: Program>(
     program: &P,
     number: usize,
     text: &[u8],
     desk: &mut Desk,
-    out: &mut String,
+    out: &mut Vec<u8>,
 ) -> Result<Result<usize, CheckFault>, AllocError>
-    ensures { IfOk result (λ answer. Adds (P.Program.meaning program.now) number text.now
-        (string_bytes out.old) (string_bytes out.new) (is_ok answer)) }
+    ensures adds { IfOk result (λ answer. Adds (P.Program.meaning program.now) number text.now
+        out.old.items out.new.items (is_ok answer)) }
+    ensures unchanged { OnErr result (out.new.items ≡ out.old.items) }
 {
     let answer = desk.check(program, text);
-    write_rule(out, number, answer, &desk.sheet[..program.stage_count()])?;
+    let sheet = &desk.sheet[..program.stage_count()];
+    let mut told = String::new(*out.allocator());
+    write_rule(&mut told, number, answer, sheet)?;
+    out.extend_from_slice(told.as_bytes())?;
     Ok(answer)
 }
 
-// Checks the rules one after another and appends their answers.
+// Checks the rules one after another and appends their answers. An error leaves the answers before it.
 pub(crate) fn answer_rules<P: Program>(
     program: &P,
     rules: &[u8],
-    out: &mut String,
+    out: &mut Vec<u8>,
 ) -> Result<Counts, AllocError>
-    ensures { IfOk result (λ counts. AddsAll (P.Program.meaning program.now) rules.now
-        (string_bytes out.old) (string_bytes out.new) counts.checked counts.refused) }
+    ensures adds { IfOk result (λ counts. AddsAll (P.Program.meaning program.now) rules.now
+        out.old.items out.new.items counts.checked counts.refused) }
+    ensures kept { OnErr result (StartsWith out.new.items out.old.items) }
 {
     let mut desk = Desk::new();
     let mut counts = Counts::default();

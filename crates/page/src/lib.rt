@@ -23,6 +23,9 @@ const STAGE_AREA: usize = 4096;
 
 const MOVE_AREA: usize = 32768;
 
+// The first room for answers: more than one rule's takes, so that from there on it doubles, whatever their lengths.
+const FIRST_ROOM: usize = 8192;
+
 // Appends the answers to a page, and says what was done. The one error is want of memory.
 pub fn answer(heap: Global, page: &[u8], out: &mut Vec<u8>) -> Result<Summary, AllocError>
     ensures answers { IfOk result (λ summary. AddsPage full_room empty page.now
@@ -33,8 +36,11 @@ pub fn answer(heap: Global, page: &[u8], out: &mut Vec<u8>) -> Result<Summary, A
     let moves = vec![in heap; 0u8; MOVE_AREA]?;
     let mut areas = Areas { stages, moves };
     let mut tray = Tray::new(&mut areas);
-    let mut answers = String::new(heap);
-    let summary = answer_over(&mut tray, page, &mut answers)?;
-    out.extend_from_slice(answers.as_bytes())?;
+    let before = out.len();
+    out.reserve(FIRST_ROOM)?;
+    let Ok(summary) = answer_over(&mut tray, page, out) else {
+        out.truncate(before);
+        return Err(AllocError);
+    };
     Ok(summary)
 }

@@ -1,5 +1,6 @@
 // A page is answered over an empty store: it is loaded, and then its rules are checked one after another.
-ghost use Rattle.std.specs.Prelude.{IfOk, string_bytes};
+ghost use Rattle.std.specs.Prelude.{IfOk, OnErr};
+ghost use Rattle.std.specs.Io.{StartsWith};
 ghost use Rattle.page.specs.Whole.{AddsPage};
 
 use crate::answers::write_refused;
@@ -26,14 +27,15 @@ pub enum Summary {
     },
 }
 
-// Loads a page into the store and appends the answers.
+// Loads a page into the store and appends the answers. An error leaves the answers before it.
 pub(crate) fn answer_over<S: Store>(
     store: &mut S,
     page: &[u8],
-    out: &mut String,
+    out: &mut Vec<u8>,
 ) -> Result<Summary, AllocError>
-    ensures { IfOk result (λ summary. AddsPage (S.room store.old) (S.Program.meaning store.old)
-        page.now (string_bytes out.old) (string_bytes out.new) summary) }
+    ensures adds { IfOk result (λ summary. AddsPage (S.room store.old) (S.Program.meaning store.old)
+        page.now out.old.items out.new.items summary) }
+    ensures kept { OnErr result (StartsWith out.new.items out.old.items) }
 {
     match load(store, page) {
         Ok(rules) => {
@@ -45,7 +47,9 @@ pub(crate) fn answer_over<S: Store>(
             })
         }
         Err(fault) => {
-            write_refused(out, ConsoleFault::Page(fault))?;
+            let mut told = String::new(*out.allocator());
+            write_refused(&mut told, ConsoleFault::Page(fault))?;
+            out.extend_from_slice(told.as_bytes())?;
             Ok(Summary::Refused { fault })
         }
     }

@@ -1,4 +1,4 @@
-use Rattle.std.proofs.Common.{◌≡◌, ◌++◌, vec_len, ap, ◌∙◌}
+use Rattle.std.proofs.Common.{◌≡◌, length, vec_len, rules, ap, ◌∙◌}
 use Rattle.program.specs.Meaning.{most_stages, most_moves}
 use Rattle.stores.specs.Trays.{room_for_stages, room_for_moves}
 use Rattle.stores.specs.InTray.{tray_room}
@@ -15,11 +15,9 @@ returns-clause-answers c =
     let room : tray_room tray ≡ full_room =
     ap (λ n. record { stages = n; moves = room_for_moves (vec_len tray.areas.now.moves) }) stages
     ∙ ap (λ n. record { stages = most_stages; moves = n }) moves in
-    let said = c.in_ok-summary.ensures in
-    let text = said.adds ∙ ap (λ b. b ++ said.bytes) c.new-answers.ensures.bytes in
-    record {
-      bytes = said.bytes;
-      adds = c.in_ok-extend_from_slice.ensures.items
-          ∙ ap (λ b. c.args.out.now.items ++ b) (c.as_bytes.ensures.value ∙ text);
-      answers = rw room at rw c.new-tray.ensures.holds at said.answers;
-    }
+    rw c.reserve.ensures.items at rw room at rw c.new-tray.ensures.holds at c.in-Ok.ensures.adds
+
+pub returns-in_default-clause-unchanged : goal.returns-in_default-clause-unchanged
+returns-in_default-clause-unchanged c =
+    let n : c.len-before.result ≡ length c.args.out.now.items = search rules in
+    c.truncate.ensures.items ∙ rw n (rw c.reserve.ensures.items at c.in_default.ensures.kept)

@@ -1,4 +1,4 @@
-use Rattle.std.proofs.Common.{◌≡◌, ◌+◌, string_bytes, arith}
+use Rattle.std.proofs.Common.{◌≡◌, ◌+◌, arith}
 use Rattle.layout.specs.Lines.{rule}
 use Rattle.layout.proofs.Loads.{shorter}
 use Rattle.page.proofs.Series.{none_answered, few_rules, one_answered, all_answered}
@@ -6,8 +6,7 @@ use Rattle.page.proofs.each_rule.answer_rules.Goals as goal
 
 pub loop-text-init : goal.loop-text-init
 loop-text-init g c = none_answered (g.P.Program.meaning c.args.program.now) c.args.rules.now
-    (string_bytes c.args.out.now)
-    c.default-counts.ensures.0 c.default-counts.ensures.1
+    c.args.out.now.items c.default-counts.ensures.0 c.default-counts.ensures.1
 
 pub count-requires : goal.count-requires
 count-requires g c = omega (
@@ -25,8 +24,8 @@ loop-text-preserved g c =
     let n : c.total.result ≡ c.loop-text.counts.checked + c.loop-text.counts.refused =
     omega (arith, c.total.ensures, few_rules c.loop-text.invariant) in
     one_answered c.loop-text.invariant c.in-Some.text.now c.in-Some.after.now
-    (string_bytes c.answer_rule.new.out) _ _ _ _
-    next.0 next.1 n c.in_ok-answer.ensures c.count.ensures.checked c.count.ensures.refused
+    c.answer_rule.new.out.items _ _ _ _
+    next.0 next.1 n c.in_ok-answer.ensures.adds c.count.ensures.checked c.count.ensures.refused
 
-pub returns : goal.returns
-returns g c = all_answered c.loop-text.invariant c.in_default.ensures
+pub returns-clause-adds : goal.returns-clause-adds
+returns-clause-adds g c = all_answered c.loop-text.invariant c.in_default.ensures
