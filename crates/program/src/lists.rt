@@ -74,8 +74,16 @@ impl ProgramCopy {
         requires moves { self.old.moves.items ≡ [] }
         ensures { prog self.new.stages.items self.new.moves.items ≡ P.Program.meaning program.now }
     {
-        ask_each(program.stage_count(), |s| program.stage(s), &mut self.stages);
-        ask_each(program.move_count(), |k| program.move_at(k), &mut self.moves);
+        ask_each(
+            program.stage_count(),
+            |s| program.stage(s),
+            &mut self.stages,
+        );
+        ask_each(
+            program.move_count(),
+            |k| program.move_at(k),
+            &mut self.moves,
+        );
     }
 
     pub fn lists(&self) -> Lists<'_>
