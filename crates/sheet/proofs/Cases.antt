@@ -18,12 +18,16 @@ use Rattle.settle.specs.Rows.{row}
 use Rattle.sheet.specs.declared.stage_set.StageSet.{StageSet}
 use Rattle.sheet.specs.Sets.{stage_count, has}
 use Rattle.sheet.specs.Told.{reaches, short_to, long_from}
-use Rattle.sheet.proofs.Sets.{table_same, row_at}
+use Rattle.sheet.proofs.Sets.{table_same}
 use Rattle.sheet.proofs.Homs.{told_reach, told_short, told_long}
+
+-- a test, in a list of where it is true
+pub in_table : (n : ℕ) (x : ℕ → Bool) (L : List Bool) → table n x ≡ L → (s : ℕ) → s < n → x s ≡ at L s
+in_table n x L e s h = sym (table_at x false n s h) ∙ ap (λ (P : List Bool). at P s) e
 
 -- what a word says, if the row is a list
 pub in_row : (n : ℕ) (ws : List ℕ) (L : List Bool) → row n ws ≡ L → (s : ℕ) → s < n → among ws s ≡ at L s
-in_row n ws L e s h = sym (row_at n ws s h) ∙ ap (λ (P : List Bool). at P s) e
+in_row n ws = in_table n (among ws)
 
 -- Two tests agree on the first n stages.
 abbrev Agree : ℕ → (ℕ → Bool) → (ℕ → Bool) → Type 0
@@ -125,9 +129,8 @@ module _ (S : List Stage) (moves : List Move) (f g : ℕ → Bool) where
     abbrev B : List Bool
     B = table n (λ s. open? p s and (non (at F s) and non (at G s)))
 
-    -- a test, in a list of where it is true
     in_list : (x : ℕ → Bool) (L : List Bool) → table n x ≡ L → (s : ℕ) → s < n → x s ≡ at L s
-    in_list x L e s h = sym (table_at x false n s h) ∙ ap (λ (P : List Bool). at P s) e
+    in_list = in_table n
 
     pass_list : (pass : ℕ → Bool) → Passes n pass → table n pass ≡ Pass
     pass_list pass e =

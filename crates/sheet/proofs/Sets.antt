@@ -78,11 +78,11 @@ pub table_stages : (f : ℕ → Bool) (stages : List Stage) → table (length st
     ≡ table (length (map timed_stage stages)) f
 table_stages f stages = ap (λ n. table n f) (sym (length-map stages timed_stage))
 
--- A row that says a test's answer for each stage is the test's table of the graph.
-pub row_stages : (stages : List Stage) (ws : List ℕ) (f : ℕ → Bool)
-    → ((s : ℕ) → s < length stages → among ws s ≡ f s)
-    → row (length stages) ws ≡ table (length (map timed_stage stages)) f
-row_stages stages ws f e = table_same (among ws) f (length stages) e ∙ table_stages f stages
+-- The table of what says a test's answer for each stage is the test's table of the graph.
+pub same_stages : (stages : List Stage) (x f : ℕ → Bool)
+    → ((s : ℕ) → s < length stages → x s ≡ f s)
+    → table (length stages) x ≡ table (length (map timed_stage stages)) f
+same_stages stages x f e = table_same x f (length stages) e ∙ table_stages f stages
 
 -- tables that are used once more
 pub spent_more : (n : ℕ) (was mid after : Tables) → AreSpent n was mid → AreSpent n mid after → AreSpent n was after

@@ -1,5 +1,5 @@
 // Sets of stages.
-ghost use Rattle.std.specs.Prelude.{◌≡◌, ℕ, ◌<◌, ◌≤◌, ◌==◌, length};
+ghost use Rattle.std.specs.Prelude.{◌≡◌, ℕ, ◌<◌, ◌≤◌, false, ◌==◌, length, slice_index_or};
 ghost use Rattle.tctl.specs.Checker.{any_move, endless, into, open?, non, ◌and◌, ◌or◌};
 ghost use Rattle.program.specs.Meaning.{most_stages};
 ghost use Rattle.tally.specs.Walks.{among};
@@ -9,20 +9,21 @@ use crate::paths::Paths;
 use program::{Kind, MOST_STAGES, Move};
 use settle::endless::Sort;
 
-// A stage is in the set where its word is not 0: words, as the tables are filled from rows of words.
+// A bool a stage, and no row of words as the tables are filled from: sets are handed by value, and a row is four times
+// as long.
 #[derive(Clone, Copy)]
 pub(crate) struct StageSet {
-    pub words: [u32; MOST_STAGES],
+    stages: [bool; MOST_STAGES],
 }
 
-// Writes of each of the first n stages whether a test is true: where the words stand, since they are many.
-fn write_words<F: Fn(usize) -> bool>(n: usize, test: F, words: &mut [u32])
-    requires room { n ≤ length words.old }
+// Writes of each of the first n stages whether a test is true: where the entries stand, since they are many.
+fn write_stages<F: Fn(usize) -> bool>(n: usize, test: F, stages: &mut [bool])
+    requires room { n ≤ length stages.old }
     requires may { (s : ℕ) → s < n → F.pre test s }
-    ensures { (s : ℕ) → s < n → F.post test s (among words.new s) }
+    ensures { (s : ℕ) → s < n → F.post test s (slice_index_or stages.new s false) }
 {
-    for (s, word) in words[..n].iter_mut().enumerate() {
-        *word = u32::from(test(s));
+    for (s, entry) in stages[..n].iter_mut().enumerate() {
+        *entry = test(s);
     }
 }
 
@@ -34,9 +35,9 @@ impl StageSet {
         ensures { (s : ℕ) → s < n → F.post test s (has result s) }
     {
         let mut set = StageSet {
-            words: [0; MOST_STAGES],
+            stages: [false; MOST_STAGES],
         };
-        write_words(n, test, &mut set.words);
+        write_stages(n, test, &mut set.stages);
         set
     }
 
@@ -44,7 +45,16 @@ impl StageSet {
         requires { s < most_stages }
         ensures { result ≡ has self.now s }
     {
-        self.words[s] > 0
+        self.stages[s]
+    }
+
+    // Writes the set as a row of words, which tallies and endless parts take.
+    pub fn write_row(&self, row: &mut [u32; MOST_STAGES])
+        ensures { (s : ℕ) → among row.new s ≡ has self.now s }
+    {
+        for (s, word) in row.iter_mut().enumerate() {
+            *word = u32::from(self.has(s));
+        }
     }
 
     // What is left of the first n stages without those of another set.
@@ -61,9 +71,10 @@ impl StageSet {
             ≡ endless (timed paths.now) any_move (listed (stage_count paths.now) self.now)
             (stage_count paths.now) }
     {
-        let mut part = *self;
-        paths.keep_endless(Sort::Any, &mut part.words);
-        part
+        let mut row = [0; MOST_STAGES];
+        self.write_row(&mut row);
+        paths.keep_endless(Sort::Any, &mut row);
+        StageSet::of(paths.stages.len(), |s| row[s] > 0)
     }
 
     // Adds the stage that a move leaves, if it enters another set.
@@ -73,7 +84,7 @@ impl StageSet {
             ≡ (has self.old s or (m.leaves == s and has set.now m.enters)) }
     {
         if set.has(usize::from(m.enters)) {
-            self.words[usize::from(m.leaves)] = 1;
+            self.stages[usize::from(m.leaves)] = true;
         }
     }
 
@@ -83,7 +94,7 @@ impl StageSet {
             (into any_move (timed paths.now).moves (listed (stage_count paths.now) self.now)) }
     {
         let mut sources = StageSet {
-            words: [0; MOST_STAGES],
+            stages: [false; MOST_STAGES],
         };
         for m in paths.moves {
             sources.add_source(*m, self);

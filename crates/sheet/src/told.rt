@@ -8,6 +8,7 @@ ghost use Rattle.sheet.specs.Told.{reaches, minutes_tell, Spent};
 
 use crate::paths::Paths;
 use crate::stage_set::StageSet;
+use program::MOST_STAGES;
 use tally::rows::clear;
 use tally::{Minutes, Reach, Tally};
 
@@ -59,7 +60,11 @@ pub(crate) fn tell<T: Told>(
     ensures spent { Spent T.Tally.algebra.none (stage_count paths.now) table.old table.new }
 {
     let n = paths.stages.len();
-    paths.tally_all(&pass.words, &goals.words, table);
+    let mut pass_row = [0; MOST_STAGES];
+    pass.write_row(&mut pass_row);
+    let mut goal_row = [0; MOST_STAGES];
+    goals.write_row(&mut goal_row);
+    paths.tally_all(&pass_row, &goal_row, table);
     let entries = &*table;
     let holds = StageSet::of(
         n,

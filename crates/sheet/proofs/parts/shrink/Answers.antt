@@ -3,7 +3,7 @@ use Rattle.tally.specs.Walks.{among}
 use Rattle.tctl.specs.Checker.{at, ◌and◌, ◌or◌}
 use Rattle.settle.specs.Rows.{row}
 use Rattle.sheet.specs.Rows.{leads_into}
-use Rattle.sheet.proofs.Sets.{table_same, row_at, row_stages}
+use Rattle.sheet.proofs.Sets.{table_same, row_at, same_stages}
 use Rattle.sheet.proofs.parts.shrink.Goals as goal
 
 pub returns : goal.returns
@@ -14,7 +14,7 @@ returns c =
     let enters = λ (s : ℕ). leads_into c.args.sort n c.args.moves.now was s in
     record {
       left =
-          row_stages stages c.thin.new.set (λ (s : ℕ). at (row n was) s and enters s)
+          same_stages stages (among c.thin.new.set) (λ (s : ℕ). at (row n was) s and enters s)
           (λ s h.
           c.thin.ensures.thinned s h
           ∙ ap (λ x. x and among c.mark_into.new.has s) (sym (row_at n was s h))

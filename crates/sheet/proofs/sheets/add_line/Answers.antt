@@ -1,7 +1,7 @@
 use Rattle.std.proofs.Common.{◌+◌, ◌^◌, cond, get_or, ap, ◌∙◌}
-use Rattle.sheet.specs.Sets.{stage_count, timed}
+use Rattle.sheet.specs.Sets.{has, stage_count, timed}
 use Rattle.sheet.specs.Sheets.{column, line_list}
-use Rattle.sheet.proofs.Cases.{in_row}
+use Rattle.sheet.proofs.Cases.{in_table}
 use Rattle.sheet.proofs.sheets.add_line.Goals as goal
 
 pub returns-clause-added : goal.returns-clause-added
@@ -11,5 +11,5 @@ returns-clause-added c =
     λ s h.
     c.write_column.ensures.written s h
     ∙ ap (λ b. get_or sheet s 0 + cond b (2 ^ c.args.k) 0)
-    (in_row n c.line_set-holds.result.words (line_list (timed c.args.paths.now) (column n sheet) c.args.line)
+    (in_table n (has c.line_set-holds.result) (line_list (timed c.args.paths.now) (column n sheet) c.args.line)
     c.line_set-holds.ensures.is s h)

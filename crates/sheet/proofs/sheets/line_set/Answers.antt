@@ -3,7 +3,7 @@ use Rattle.tctl.specs.Holds.{marked}
 use Rattle.tctl.specs.Checker.{non, at, open?, ◌and◌, ◌or◌}
 use Rattle.sheet.specs.Sets.{has, stage_count, timed}
 use Rattle.sheet.specs.Sheets.{bit, column, line_list}
-use Rattle.sheet.proofs.Sets.{row_stages}
+use Rattle.sheet.proofs.Sets.{same_stages}
 use Rattle.sheet.proofs.Bits.{column_at, columns_at}
 use Rattle.sheet.proofs.sheets.line_set.Goals as goal
 
@@ -13,7 +13,7 @@ returns-in-One-clause-is c =
     let p = timed paths in
     let n = stage_count paths in
     let sheet = c.args.sheet.now in
-    row_stages paths.stages.now c.of.result.words (λ (s : ℕ). open? p s)
+    same_stages paths.stages.now (has c.of.result) (λ (s : ℕ). open? p s)
     (λ s h. let e = c.of.ensures s h in search rules)
     ∙ ap (line_list p (column n sheet)) (sym c.in-One.is)
 
@@ -23,7 +23,7 @@ returns-in-Letter-clause-is c =
     let p = timed paths in
     let letter = c.in-Letter.letter in
     let n = stage_count paths in
-    row_stages paths.stages.now c.of-in-Letter.result.words (λ (s : ℕ). open? p s and marked p s letter)
+    same_stages paths.stages.now (has c.of-in-Letter.result) (λ (s : ℕ). open? p s and marked p s letter)
     (λ s h. let e = c.of-in-Letter.ensures s h in search rules)
     ∙ ap (line_list p (column n c.args.sheet.now)) (sym c.in-Letter.is)
 
@@ -34,7 +34,7 @@ returns-in-Not-clause-is c =
     let i = c.in-Not.i in
     let col = column (stage_count paths) c.args.sheet.now in
     let holds = c.of-in-Not.result in
-    row_stages paths.stages.now holds.words (λ (s : ℕ). open? p s and non (at (col i) s))
+    same_stages paths.stages.now (has holds) (λ (s : ℕ). open? p s and non (at (col i) s))
     (λ s h.
     let e : has holds s ≡ (open? p s and non (bit i (get_or c.args.sheet.now s 0))) =
     (let o = c.of-in-Not.ensures s h in search rules) in
@@ -50,7 +50,7 @@ returns-in-And-clause-is c =
     let sheet = c.args.sheet.now in
     let col = column (stage_count paths) sheet in
     let holds = c.of-in-And.result in
-    row_stages paths.stages.now holds.words (λ (s : ℕ). at (col i) s and at (col j) s)
+    same_stages paths.stages.now (has holds) (λ (s : ℕ). at (col i) s and at (col j) s)
     (λ s h.
     let e : has holds s ≡ (bit i (get_or sheet s 0) and bit j (get_or sheet s 0)) =
     (let o = c.of-in-And.ensures s h in search rules) in
@@ -66,7 +66,7 @@ returns-in-Or-clause-is c =
     let sheet = c.args.sheet.now in
     let col = column (stage_count paths) sheet in
     let holds = c.of-in-Or.result in
-    row_stages paths.stages.now holds.words (λ (s : ℕ). at (col i) s or at (col j) s)
+    same_stages paths.stages.now (has holds) (λ (s : ℕ). at (col i) s or at (col j) s)
     (λ s h.
     let e : has holds s ≡ (bit i (get_or sheet s 0) or bit j (get_or sheet s 0)) =
     (let o = c.of-in-Or.ensures s h in search rules) in
