@@ -23,6 +23,13 @@ use Rattle.sheet.proofs.Homs.{told_reach, told_short, told_long}
 -- a test, in a list of where it is true
 pub in_table : (n : ℕ) (x : ℕ → Bool) (L : List Bool) → table n x ≡ L → (s : ℕ) → s < n → x s ≡ at L s
 in_table n x L e s h = sym (table_at x false n s h) ∙ ap (λ (P : List Bool). at P s) e
+<<<<<<< HEAD
+=======
+
+-- what a word says, if the row is a list
+pub in_row : (n : ℕ) (ws : List ℕ) (L : List Bool) → row n ws ≡ L → (s : ℕ) → s < n → among ws s ≡ at L s
+in_row n ws = in_table n (among ws)
+>>>>>>> 8d876b37987b12daf12cb0f4701679d61dbae71a
 
 -- Two tests agree on the first n stages.
 abbrev Agree : ℕ → (ℕ → Bool) → (ℕ → Bool) → Type 0
