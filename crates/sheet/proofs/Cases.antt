@@ -10,10 +10,11 @@ use Rattle.tctl.proofs.Basics.{table_at}
 use Rattle.program.specs.declared.Move.{Move}
 use Rattle.program.specs.Graphs.{timed_stage, timed_move}
 use Rattle.tally.specs.Algebras.{most_sum, reach_algebra, shortest_algebra, longest_algebra}
-use Rattle.tally.specs.Walks.{tallied}
+use Rattle.tally.specs.Walks.{among, tallied}
 use Rattle.tally.specs.Rounds.{Within}
 use Rattle.tally.proofs.Laws.{reach_laws, minutes_laws}
 use Rattle.sheet.specs.declared.paths.Paths.{Paths}
+use Rattle.settle.specs.Rows.{row}
 use Rattle.sheet.specs.declared.stage_set.StageSet.{StageSet}
 use Rattle.sheet.specs.Sets.{stage_count, has}
 use Rattle.sheet.specs.Told.{reaches, short_to, long_from}
@@ -23,13 +24,10 @@ use Rattle.sheet.proofs.Homs.{told_reach, told_short, told_long}
 -- a test, in a list of where it is true
 pub in_table : (n : ℕ) (x : ℕ → Bool) (L : List Bool) → table n x ≡ L → (s : ℕ) → s < n → x s ≡ at L s
 in_table n x L e s h = sym (table_at x false n s h) ∙ ap (λ (P : List Bool). at P s) e
-<<<<<<< HEAD
-=======
 
 -- what a word says, if the row is a list
 pub in_row : (n : ℕ) (ws : List ℕ) (L : List Bool) → row n ws ≡ L → (s : ℕ) → s < n → among ws s ≡ at L s
 in_row n ws = in_table n (among ws)
->>>>>>> 8d876b37987b12daf12cb0f4701679d61dbae71a
 
 -- Two tests agree on the first n stages.
 abbrev Agree : ℕ → (ℕ → Bool) → (ℕ → Bool) → Type 0
