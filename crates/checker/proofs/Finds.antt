@@ -141,7 +141,7 @@ module _ (stages : List Stage) (moves : List Move) (within : Within (length stag
       (subst (λ x. x < k) same lands, subst (Cycle P) same round)
 
   -- the move of a cycle out of one of its stages
-  cycle_move : (s : ℕ) → Cycle P s
+  pub cycle_move : (s : ℕ) → Cycle P s
       → (k : ℕ) × (k < length moves) × ((get_or moves k no_move).leaves ≡ s) × ((get_or moves k no_move).minutes ≡ 0)
       × Cycle P (get_or moves k no_move).enters
   cycle_move s c =

@@ -1,7 +1,7 @@
 // What a program has to have, so that rules can be checked on it: each stage a move out, and no cycle of moves that
 // take no time.
-ghost use Rattle.std.specs.Prelude.{◌≡◌, ℕ, ◌<◌, ◌≤◌, true, length};
-ghost use Rattle.program.specs.Meaning.{prog};
+ghost use Rattle.std.specs.Prelude.{◌≡◌, ℕ, ◌<◌, ◌≤◌, true, false, length, ◌≢◌, slice_index_or};
+ghost use Rattle.program.specs.Meaning.{no_move, prog};
 ghost use Rattle.tally.specs.Walks.{among};
 ghost use Rattle.tally.specs.Rounds.{Within};
 ghost use Rattle.checker.specs.Found.{DeadFound, LeftBefore, CycleFound, Found, meets, ahead, steps};
@@ -87,10 +87,20 @@ fn follow(n: usize, moves: &[Move], set: &[u32], s: usize) -> usize
     at
 }
 
+// Whether some move takes no time.
+fn has_still(moves: &[Move]) -> bool
+    ensures { result ≡ false → (k : ℕ) → k < length moves.now → (slice_index_or moves.now k no_move).minutes ≢ 0 }
+{
+    moves.iter().any(|m| Sort::Still.counts(*m))
+}
+
 // A stage on a cycle of moves that take no time.
 pub(crate) fn still_stage(paths: &Paths) -> Option<usize>
     ensures { CycleFound (prog paths.now.stages.now paths.now.moves.now) result }
 {
+    if !has_still(paths.moves) {
+        return None;
+    }
     let n = paths.stages.len();
     let mut set = [1u32; MOST_STAGES];
     paths.keep_endless(Sort::Still, &mut set);

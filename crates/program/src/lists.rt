@@ -39,13 +39,12 @@ fn ask_each<T: Copy + Default, const N: usize, F: Fn(usize) -> T>(
     }
 }
 
-// A copy of the moves alone.
-pub fn copy_moves<P: Program>(program: &P) -> ArrayVec<Move, MOST_MOVES>
-    ensures { result.items ≡ (P.Program.meaning program.now).moves }
+// Makes a vector a copy of the moves alone: where it stands, since it is large.
+pub fn copy_moves<P: Program>(program: &P, moves: &mut ArrayVec<Move, MOST_MOVES>)
+    ensures { moves.new.items ≡ (P.Program.meaning program.now).moves }
 {
-    let mut moves = ArrayVec::new();
-    ask_each(program.move_count(), |k| program.move_at(k), &mut moves);
-    moves
+    moves.clear();
+    ask_each(program.move_count(), |k| program.move_at(k), moves);
 }
 
 impl ProgramCopy {

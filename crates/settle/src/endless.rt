@@ -33,5 +33,6 @@ pub fn keep_endless(sort: Sort, chained: &Chained, set: &mut [u32])
     ensures left { LeavesEndless sort chained.now.stages chained.now.moves.now set.old set.new }
     ensures above { RestKept chained.now.stages set.old set.new }
 {
-    let _removal = Removal::of(sort, chained, set);
+    let mut removal = Removal::none();
+    removal.run(sort, chained, set);
 }

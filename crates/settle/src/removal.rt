@@ -34,10 +34,22 @@ fn leads(sort: Sort, m: Move, set: &[u32]) -> bool
 }
 
 impl Removal {
+    ghost use Rattle.std.specs.Prelude.{[]};
     ghost use Rattle.settle.specs.Chains.{end_at, link_at};
     ghost use Rattle.settle.specs.Queues.{Lined};
     ghost use Rattle.settle.specs.Removals.{stages_of, moves_of, From, Outside, Booked, Watching, Due};
     ghost use Rattle.settle.specs.Removals.{Removes, Removed, Rewatches, LooksAt};
+
+    // None is gone.
+    pub fn none() -> Removal
+        ensures { result.gone.items ≡ [] }
+    {
+        Removal {
+            watched: [None; MOST_STAGES],
+            gone: ArrayVec::new(),
+            done: 0,
+        }
+    }
 
     // Lets a stage watch the next move of its chain, from a link on, that leads into the set. Where there is none the
     // stage is gone.
@@ -118,21 +130,17 @@ impl Removal {
         }
     }
 
-    // Removes stages until each that is left has a move of the sort into what is left.
-    pub fn of(sort: Sort, chained: &Chained, set: &mut [u32]) -> Removal
-        requires { stages_of chained.now ≤ length set.old }
-        ensures { Removed sort chained.now set.old set.new result }
+    // Removes stages until each that is left has a move of the sort into what is left: where the removal stands, since
+    // it is large.
+    pub fn run(&mut self, sort: Sort, chained: &Chained, set: &mut [u32])
+        requires none { self.old.gone.items ≡ [] }
+        requires set { stages_of chained.now ≤ length set.old }
+        ensures { Removed sort chained.now set.old set.new self.new }
     {
-        let mut removal = Removal {
-            watched: [None; MOST_STAGES],
-            gone: ArrayVec::new(),
-            done: 0,
-        };
-        removal.watch_all(sort, chained, set);
-        while let Some(gone) = removal.next_gone() {
-            removal.look(sort, chained, gone, set);
+        self.watch_all(sort, chained, set);
+        while let Some(gone) = self.next_gone() {
+            self.look(sort, chained, gone, set);
         }
-        removal
     }
 
     // Puts the stages that are gone into a queue, in the order in which they went.

@@ -1,6 +1,7 @@
-// For each stage the choice over all walks to a goal, by a queue of the stages whose value changed: as such a stage is
-// taken out, what is said of it goes back over the moves that enter it.
-ghost use Rattle.std.specs.Prelude.{◌≡◌, ◌*◌, ◌<◌, ◌≤◌, ◌⊎◌, length, slice_index_or, OnOk};
+// For each stage the choice over all walks to a goal: by a few passes over all moves where these settle it, and else by
+// a queue of the stages whose value changed: as such a stage is taken out, what is said of it goes back over the moves
+// that enter it.
+ghost use Rattle.std.specs.Prelude.{◌≡◌, ◌*◌, ◌<◌, ◌≤◌, ◌⊎◌, true, false, length, slice_index_or, OnOk};
 ghost use Rattle.program.specs.Meaning.{no_move};
 ghost use Rattle.tally.specs.Walks.{among, tallied};
 ghost use Rattle.tally.specs.Rounds.{entry, KeptFrom};
@@ -15,13 +16,18 @@ use crate::endless::Sort;
 use crate::links::Chained;
 use crate::queue::{Full, Queue};
 use crate::removal::Removal;
-use program::MOST_STAGES;
+use program::{MOST_STAGES, Move};
 use tally::Tally;
 use tally::rows::{begin_row, clear, tallies};
 use tally::walks::Walks;
 
 // A stage is taken out once a round at most. As many rounds as there are stages say all, and after one more none waits.
 const MOST_TURNS: usize = MOST_STAGES * (MOST_STAGES + 1) + 1;
+
+// So many passes, over so many moves, take no more time than it takes to make a queue and to line it up.
+const FEW_PASSES: usize = 4;
+
+const FEW_MOVES: usize = 1024;
 
 // Why the queue does not settle a table.
 #[derive(Clone, Copy, PartialEq, Eq, Debug)]
@@ -54,9 +60,66 @@ fn leave_last(pass: &[u32], last: &mut [u32]) {
     }
 }
 
+// Adds to what the table says of the stage that a move leaves what it says of the stage that the move enters, with the
+// move's minutes before it. Answers whether that changed something.
+fn pour<T: Tally>(m: Move, pass: &[u32], table: &mut [T]) -> bool
+    requires pass { m.leaves < length pass.now }
+    requires room { (m.leaves < length table.old) × (m.enters < length table.old) }
+    ensures place { InPlace T.Tally.algebra (among pass.now) m (entry T.Tally.algebra table.old)
+        (entry T.Tally.algebra table.new) }
+    ensures told { result ≡ false → entry T.Tally.algebra table.new m.leaves
+        ≡ entry T.Tally.algebra table.old m.leaves }
+{
+    let leaves = usize::from(m.leaves);
+    if pass[leaves] == 0 {
+        return false;
+    }
+    let had = table[leaves];
+    let more = table[usize::from(m.enters)].before(m.minutes);
+    let both = had.choice(more);
+    // Written in any case: as a branch it would often be foretold wrongly.
+    table[leaves] = both;
+    !had.same(both)
+}
+
+// Takes what the table says back over each move once, the last one first, as programs list their moves forward. Answers
+// whether that changed something.
+fn pour_all<T: Tally>(walks: &Walks, table: &mut [T]) -> bool
+    requires room { walks.now.stages ≤ length table.old }
+    ensures partly { StillPartly T.Tally.algebra walks.now.stages walks.now.moves.now
+        (among walks.now.pass.now) (entry T.Tally.algebra table.old) (entry T.Tally.algebra table.new) }
+    ensures above { KeptFrom T.Tally.algebra walks.now.stages table.old table.new }
+    ensures still { result ≡ false → Still T.Tally.algebra walks.now.moves.now
+        (among walks.now.pass.now) (entry T.Tally.algebra table.new) }
+{
+    let mut changed = false;
+    for k in (0..walks.moves.len()).rev() {
+        if pour(walks.moves[k], walks.pass, table) {
+            changed = true;
+        }
+    }
+    changed
+}
+
+// Fills the first row by a few passes over all moves. Answers true only if they come to the choice over all walks.
+fn by_passes<T: Tally>(walks: &Walks, table: &mut [T]) -> bool
+    requires { walks.now.stages ≤ length table.old }
+    ensures above { KeptFrom T.Tally.algebra walks.now.stages table.old table.new }
+    ensures all { result ≡ true → OfAll T.Tally.algebra walks.now.stages walks.now.moves.now
+        (among walks.now.pass.now) (among walks.now.goals.now) (entry T.Tally.algebra table.new) }
+{
+    begin_row(0, walks.stages, walks.goals, table);
+    for _pass in 0..FEW_PASSES {
+        if !pour_all(walks, table) {
+            return true;
+        }
+    }
+    false
+}
+
 impl ChainedWalks<'_, '_, '_> {
-    // Adds to what the table says of the stage that a move leaves what it says of the stage that the move enters, with
-    // the move's minutes before it. Where that changes something, the stage is put into the queue.
+    // Takes what the table says back over a move. Where that changes something, the stage that it leaves is put into
+    // the queue.
     fn pour_back<T: Tally>(&self, k: usize, table: &mut [T], queue: &mut Queue) -> Result<(), Full>
         requires real { k < length self.now.walks.moves.now }
         requires room { self.now.walks.stages ≤ length table.old }
@@ -69,18 +132,10 @@ impl ChainedWalks<'_, '_, '_> {
             ⊎ Waits queue.new leaves) }
     {
         let m = self.walks.moves[k];
-        let leaves = usize::from(m.leaves);
-        if self.walks.pass[leaves] == 0 {
-            return Ok(());
+        if pour(m, self.walks.pass, table) {
+            return queue.put(usize::from(m.leaves));
         }
-        let had = table[leaves];
-        let more = table[usize::from(m.enters)].before(m.minutes);
-        let both = had.choice(more);
-        if had.same(both) {
-            return Ok(());
-        }
-        table[leaves] = both;
-        queue.put(leaves)
+        Ok(())
     }
 
     // Takes what the table says of a stage back over the moves that enter it.
@@ -144,7 +199,9 @@ impl ChainedWalks<'_, '_, '_> {
         last[..n].copy_from_slice(&self.walks.goals[..n]);
         leave_last(self.walks.pass, &mut last[..n]);
         queue.put_all(n, &last)?;
-        Removal::of(Sort::Any, self.chained, &mut inner).put_gone(queue)?;
+        let mut removal = Removal::none();
+        removal.run(Sort::Any, self.chained, &mut inner);
+        removal.put_gone(queue)?;
         queue.put_all(n, self.walks.goals)
     }
 
@@ -179,6 +236,10 @@ pub fn tally_all<T: Tally>(chained: &Chained, pass: &[u32], goals: &[u32], table
         pass,
         goals,
     };
+    if chained.moves.len() <= FEW_MOVES && by_passes(&walks, table) {
+        clear(stages, 4 * stages, table);
+        return;
+    }
     match (ChainedWalks { walks, chained }).by_queue(table) {
         Ok(()) => clear(stages, 4 * stages, table),
         Err(Unsettled::QueueFull | Unsettled::TurnsUsedUp) => {

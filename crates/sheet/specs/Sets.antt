@@ -1,9 +1,10 @@
 -- Sets of stages, and the untils over them.
-use Rattle.std.specs.Prelude.{◌≡◌, ℕ, ◌<◌, Bool, false, List, length, slice_index_or}
+use Rattle.std.specs.Prelude.{◌≡◌, ℕ, ◌<◌, Bool, List, length}
 use Rattle.tctl.specs.Graph.{Graph}
 use Rattle.tctl.specs.Rules.{Bound}
-use Rattle.tctl.specs.Checker.{table}
 use Rattle.program.specs.Graphs.{graph_of}
+use Rattle.tally.specs.Walks.{among}
+use Rattle.settle.specs.Rows.{row}
 use Rattle.sheet.specs.declared.paths.Paths.{Paths}
 use Rattle.sheet.specs.declared.stage_set.StageSet.{StageSet}
 
@@ -16,11 +17,11 @@ timed paths = graph_of paths.stages.now paths.moves.now
 
 -- Whether a stage is in a set.
 abbrev pub has : StageSet → ℕ → Bool
-has set s = slice_index_or set.stages s false
+has set s = among set.0 s
 
 -- The first n stages of a set, as a list.
 abbrev pub listed : ℕ → StageSet → List Bool
-listed n set = table n (has set)
+listed n set = row n set.0
 
 -- Of the first n stages, a set has those of which a test is true.
 abbrev pub Says : ℕ → StageSet → (ℕ → Bool) → Type 0

@@ -1,4 +1,4 @@
-// The sheet of a check over plain slices: word s has bit k exactly for the lines k that hold at stage s.
+// The sheet of a check: word s has bit k exactly for the lines k that hold at stage s.
 // Rests on `program`, `rules`, the tallies and how they are settled, and the checker that `tctl` proves right.
 
 #![tactic(auto)]

@@ -32,13 +32,13 @@ fn with_line(word: u32, k: usize, holds: bool) -> u32
 }
 
 // The stages at which a line of the sheet holds.
-fn read_column(n: usize, k: usize, sheet: &[u32]) -> StageSet
+fn read_column(n: usize, k: usize, sheet: &[u32], holds: &mut StageSet)
     requires number { k < most_lines }
     requires few { n ≤ most_stages }
     requires sheet { n ≤ length sheet.now }
-    ensures { listed n result ≡ column n sheet.now k }
+    ensures { listed n holds.new ≡ column n sheet.now k }
 {
-    StageSet::of(n, |s| bit_of(sheet[s], k))
+    holds.fill(n, |s| bit_of(sheet[s], k));
 }
 
 fn write_column(n: usize, k: usize, holds: &StageSet, sheet: &mut [u32])
@@ -70,51 +70,54 @@ fn until_set(
     bound: Bound,
     g: &StageSet,
     tables: &mut Tables,
-) -> StageSet
+    holds: &mut StageSet,
+)
     requires small { bound_number bound ≤ largest_number }
     requires ready { AreReady (stage_count paths.now) tables.old }
-    ensures is { listed (stage_count paths.now) result
+    ensures is { listed (stage_count paths.now) holds.new
         ≡ until_list (timed paths.now) quantifier bound (listed (stage_count paths.now) f.now)
         (listed (stage_count paths.now) g.now) }
     ensures spent { AreSpent (stage_count paths.now) tables.old tables.new }
     ensures slices { SameSlices tables.old tables.new }
 {
     match (quantifier, bound) {
-        (Quantifier::Some, Bound::AtMost(c)) => some_most(paths, f, c, g, tables),
-        (Quantifier::Some, Bound::AtLeast(c)) => some_least(paths, f, c, g, tables),
-        (Quantifier::All, Bound::AtMost(c)) => each_most(paths, f, c, g, tables),
-        (Quantifier::All, Bound::AtLeast(c)) => each_least(paths, f, c, g, tables),
+        (Quantifier::Some, Bound::AtMost(c)) => some_most(paths, f, c, g, tables, holds),
+        (Quantifier::Some, Bound::AtLeast(c)) => some_least(paths, f, c, g, tables, holds),
+        (Quantifier::All, Bound::AtMost(c)) => each_most(paths, f, c, g, tables, holds),
+        (Quantifier::All, Bound::AtLeast(c)) => each_least(paths, f, c, g, tables, holds),
     }
 }
 
 // Where a line holds, from the columns of the lines before it.
-fn line_set(paths: &Paths, line: Line, sheet: &[u32], tables: &mut Tables) -> StageSet
+fn line_set(paths: &Paths, line: Line, sheet: &[u32], tables: &mut Tables, holds: &mut StageSet)
     requires formed { Formed most_lines line }
     requires sheet { stage_count paths.now ≤ length sheet.now }
     requires ready { AreReady (stage_count paths.now) tables.old }
-    ensures is { listed (stage_count paths.now) result
+    ensures is { listed (stage_count paths.now) holds.new
         ≡ line_list (timed paths.now) (column (stage_count paths.now) sheet.now) line }
     ensures spent { AreSpent (stage_count paths.now) tables.old tables.new }
     ensures slices { SameSlices tables.old tables.new }
 {
     let n = paths.stages.len();
     match line {
-        Line::One => StageSet::of(n, |s| is_open(paths, s)),
-        Line::Letter(letter) => StageSet::of(n, |s| {
+        Line::One => holds.fill(n, |s| is_open(paths, s)),
+        Line::Letter(letter) => holds.fill(n, |s| {
             is_open(paths, s) && has_mark(paths, s, letter)
         }),
-        Line::Not(i) => StageSet::of(n, |s| is_open(paths, s) && !bit_of(sheet[s], i)),
-        Line::And(i, j) => StageSet::of(n, |s| bit_of(sheet[s], i) && bit_of(sheet[s], j)),
-        Line::Or(i, j) => StageSet::of(n, |s| bit_of(sheet[s], i) || bit_of(sheet[s], j)),
+        Line::Not(i) => holds.fill(n, |s| is_open(paths, s) && !bit_of(sheet[s], i)),
+        Line::And(i, j) => holds.fill(n, |s| bit_of(sheet[s], i) && bit_of(sheet[s], j)),
+        Line::Or(i, j) => holds.fill(n, |s| bit_of(sheet[s], i) || bit_of(sheet[s], j)),
         Line::Until {
             quantifier,
             left,
             bound,
             right,
         } => {
-            let f = read_column(n, left, sheet);
-            let g = read_column(n, right, sheet);
-            until_set(paths, quantifier, &f, bound, &g, tables)
+            let mut f = StageSet::none();
+            read_column(n, left, sheet, &mut f);
+            let mut g = StageSet::none();
+            read_column(n, right, sheet, &mut g);
+            until_set(paths, quantifier, &f, bound, &g, tables, holds);
         }
     }
 }
@@ -133,7 +136,8 @@ fn add_line(paths: &Paths, k: usize, line: Line, sheet: &mut [u32], tables: &mut
     ensures spent { AreSpent (stage_count paths.now) tables.old tables.new }
     ensures slices { SameSlices tables.old tables.new }
 {
-    let holds = line_set(paths, line, sheet, tables);
+    let mut holds = StageSet::none();
+    line_set(paths, line, sheet, tables, &mut holds);
     write_column(paths.stages.len(), k, &holds, sheet);
 }
 

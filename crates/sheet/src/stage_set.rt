@@ -1,80 +1,68 @@
 // Sets of stages.
-ghost use Rattle.std.specs.Prelude.{◌≡◌, ℕ, ◌<◌, ◌≤◌, false, ◌==◌, length, slice_index_or};
+ghost use Rattle.std.specs.Prelude.{◌≡◌, ℕ, ◌<◌, ◌≤◌, true, false, ◌==◌};
 ghost use Rattle.tctl.specs.Checker.{any_move, endless, into, open?, non, ◌and◌, ◌or◌};
 ghost use Rattle.program.specs.Meaning.{most_stages};
-ghost use Rattle.tally.specs.Walks.{among};
 ghost use Rattle.sheet.specs.Sets.{has, listed, stage_count, timed, Says};
 
 use crate::paths::Paths;
 use program::{Kind, MOST_STAGES, Move};
 use settle::endless::Sort;
 
-// A bool a stage, and no row of words as the tables are filled from: sets are handed by value, and a row is four times
-// as long.
+// A stage is in the set where its word is not 0: words, as the tables are filled from rows of words. A set is filled
+// where it stands, since it is large, and a call that hands one over copies it.
 #[derive(Clone, Copy)]
-pub(crate) struct StageSet {
-    stages: [bool; MOST_STAGES],
-}
-
-// Writes of each of the first n stages whether a test is true: where the entries stand, since they are many.
-fn write_stages<F: Fn(usize) -> bool>(n: usize, test: F, stages: &mut [bool])
-    requires room { n ≤ length stages.old }
-    requires may { (s : ℕ) → s < n → F.pre test s }
-    ensures { (s : ℕ) → s < n → F.post test s (slice_index_or stages.new s false) }
-{
-    for (s, entry) in stages[..n].iter_mut().enumerate() {
-        *entry = test(s);
-    }
-}
+pub(crate) struct StageSet(pub [u32; MOST_STAGES]);
 
 impl StageSet {
-    // The first n stages of which a test is true.
-    pub fn of<F: Fn(usize) -> bool>(n: usize, test: F) -> StageSet
+    pub fn none() -> StageSet
+        ensures { (s : ℕ) → s < most_stages → has result s ≡ false }
+    {
+        StageSet([0; MOST_STAGES])
+    }
+
+    pub fn all() -> StageSet
+        ensures { (s : ℕ) → s < most_stages → has result s ≡ true }
+    {
+        StageSet([1; MOST_STAGES])
+    }
+
+    // Makes the first n stages those of which a test is true.
+    pub fn fill<F: Fn(usize) -> bool>(&mut self, n: usize, test: F)
         requires few { n ≤ most_stages }
         requires may { (s : ℕ) → s < n → F.pre test s }
-        ensures { (s : ℕ) → s < n → F.post test s (has result s) }
+        ensures { (s : ℕ) → s < n → F.post test s (has self.new s) }
     {
-        let mut set = StageSet {
-            stages: [false; MOST_STAGES],
-        };
-        write_stages(n, test, &mut set.stages);
-        set
+        for (s, word) in self.0[..n].iter_mut().enumerate() {
+            *word = u32::from(test(s));
+        }
     }
 
     pub fn has(&self, s: usize) -> bool
         requires { s < most_stages }
         ensures { result ≡ has self.now s }
     {
-        self.stages[s]
+        self.0[s] > 0
     }
 
-    // Writes the set as a row of words, which tallies and endless parts take.
-    pub fn write_row(&self, row: &mut [u32; MOST_STAGES])
-        ensures { (s : ℕ) → among row.new s ≡ has self.now s }
+    // Takes the stages of another set out of the first n.
+    pub fn remove(&mut self, n: usize, other: &StageSet)
+        requires { n ≤ most_stages }
+        ensures { Says n self.new (λ s. has self.old s and non (has other.now s)) }
     {
-        for (s, word) in row.iter_mut().enumerate() {
-            *word = u32::from(self.has(s));
+        for (s, word) in self.0[..n].iter_mut().enumerate() {
+            if other.has(s) {
+                *word = 0;
+            }
         }
     }
 
-    // What is left of the first n stages without those of another set.
-    pub fn without(&self, n: usize, other: &StageSet) -> StageSet
-        requires { n ≤ most_stages }
-        ensures { Says n result (λ s. has self.now s and non (has other.now s)) }
-    {
-        StageSet::of(n, |s| self.has(s) && !other.has(s))
-    }
-
-    // The greatest part in which each stage has a move into the part.
-    pub fn endless(&self, paths: &Paths) -> StageSet
-        ensures { listed (stage_count paths.now) result
-            ≡ endless (timed paths.now) any_move (listed (stage_count paths.now) self.now)
+    // Leaves the greatest part in which each stage has a move into the part.
+    pub fn keep_endless(&mut self, paths: &Paths)
+        ensures { listed (stage_count paths.now) self.new
+            ≡ endless (timed paths.now) any_move (listed (stage_count paths.now) self.old)
             (stage_count paths.now) }
     {
-        let mut row = [0; MOST_STAGES];
-        self.write_row(&mut row);
-        paths.keep_endless(Sort::Any, &mut row);
-        StageSet::of(paths.stages.len(), |s| row[s] > 0)
+        paths.keep_endless(Sort::Any, &mut self.0);
     }
 
     // Adds the stage that a move leaves, if it enters another set.
@@ -84,22 +72,18 @@ impl StageSet {
             ≡ (has self.old s or (m.leaves == s and has set.now m.enters)) }
     {
         if set.has(usize::from(m.enters)) {
-            self.stages[usize::from(m.leaves)] = true;
+            self.0[usize::from(m.leaves)] = 1;
         }
     }
 
-    // The stages with a move into the set.
-    pub fn sources(&self, paths: &Paths) -> StageSet
-        ensures { Says (stage_count paths.now) result
-            (into any_move (timed paths.now).moves (listed (stage_count paths.now) self.now)) }
+    // Adds the stages with a move into another set.
+    pub fn add_sources(&mut self, paths: &Paths, set: &StageSet)
+        ensures { Says (stage_count paths.now) self.new (λ s. has self.old s
+            or into any_move (timed paths.now).moves (listed (stage_count paths.now) set.now) s) }
     {
-        let mut sources = StageSet {
-            stages: [false; MOST_STAGES],
-        };
         for m in paths.moves {
-            sources.add_source(*m, self);
+            self.add_source(*m, set);
         }
-        sources
     }
 }
 

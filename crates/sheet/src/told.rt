@@ -8,7 +8,6 @@ ghost use Rattle.sheet.specs.Told.{reaches, minutes_tell, Spent};
 
 use crate::paths::Paths;
 use crate::stage_set::StageSet;
-use program::MOST_STAGES;
 use tally::rows::clear;
 use tally::{Minutes, Reach, Tally};
 
@@ -50,23 +49,20 @@ pub(crate) fn tell<T: Told>(
     goals: &StageSet,
     minutes: u32,
     table: &mut [T],
-) -> StageSet
+    holds: &mut StageSet,
+)
     requires room { 4 * stage_count paths.now ≤ length table.old }
     requires settles { Settles T.Tally.algebra (stage_count paths.now) paths.now.moves.now
         (has pass.now) (has goals.now) }
-    ensures is { Says (stage_count paths.now) result (λ s. T.Told.tells minutes
+    ensures is { Says (stage_count paths.now) holds.new (λ s. T.Told.tells minutes
         (tallied T.Tally.algebra paths.now.moves.now (has pass.now) (has goals.now)
         (stage_count paths.now) s)) }
     ensures spent { Spent T.Tally.algebra.none (stage_count paths.now) table.old table.new }
 {
     let n = paths.stages.len();
-    let mut pass_row = [0; MOST_STAGES];
-    pass.write_row(&mut pass_row);
-    let mut goal_row = [0; MOST_STAGES];
-    goals.write_row(&mut goal_row);
-    paths.tally_all(&pass_row, &goal_row, table);
+    paths.tally_all(&pass.0, &goals.0, table);
     let entries = &*table;
-    let holds = StageSet::of(
+    holds.fill(
         n,
         |s: usize| -> bool
             requires { s < length entries.now }
@@ -74,5 +70,4 @@ pub(crate) fn tell<T: Told>(
         { entries[s].told(minutes) },
     );
     clear(0, n, table);
-    holds
 }

@@ -5,6 +5,7 @@ ghost use Rattle.tally.specs.Tables.{Fills, tally_fault_number};
 use crate::Tally;
 use crate::rows::tallies;
 use crate::walks::Walks;
+use arrayvec::ArrayVec;
 use program::Program;
 use program::lists::copy_moves;
 
@@ -40,7 +41,8 @@ pub fn fill<T: Tally, P: Program>(
     if pass.len() < stages || goals.len() < stages || table.len() < 4 * stages {
         return Err(TallyFault::ShortMemory);
     }
-    let moves = copy_moves(program);
+    let mut moves = ArrayVec::new();
+    copy_moves(program, &mut moves);
     let walks = Walks {
         stages,
         moves: moves.as_slice(),

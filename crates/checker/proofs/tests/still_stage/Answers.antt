@@ -11,7 +11,7 @@ use Rattle.settle.specs.Rows.{row}
 use Rattle.sheet.proofs.Sets.{table_same}
 use Rattle.sheet.proofs.Cases.{in_row}
 use Rattle.checker.specs.Found.{CycleFound}
-use Rattle.checker.proofs.Finds.{rests, cycle_if, no_cycle}
+use Rattle.checker.proofs.Finds.{rests, cycle_if, cycle_move, no_cycle}
 use Rattle.checker.proofs.tests.still_stage.Goals as goal
 
 -- what is left of all stages is what rests
@@ -51,3 +51,9 @@ returns-in_err-first c =
     (no_cycle stages moves paths.within
     (λ s l. sym (left_rests stages moves paths.within set paths.few c.keep_endless.ensures.left s l)
     ∙ c.in_err-first.ensures s l))
+
+pub returns-then-not-has_still : goal.returns-then-not-has_still
+returns-then-not-has_still c = λ s cycle.
+    let paths = c.args.paths.now in
+    let move = cycle_move paths.stages.now paths.moves.now paths.within s cycle in
+    c.has_still.ensures c.if-not-has_still.true move.0 move.1 move.3

@@ -14,13 +14,13 @@ returns c =
     let moves = chained.moves.now in
     let sort = c.args.sort in
     let was = c.args.set.now in
-    let after = c.of-removal.new.set in
-    let r = c.of-removal.ensures in
+    let after = c.run.new.set in
+    let r = c.run.ensures in
     record {
       left = λ stages many.
           subst (λ n. row n after ≡ endless (graph_of stages moves) (sort_of sort) (row n was) n) many
           (endless_left stages moves (subst (λ n. Within n moves) (sym many) chained.linked.leaves.within) sort
-          was after c.of-removal.result r.shrinks
-          (subst (λ n. WatchingBelow n sort moves (among after) (λ k. ⊥) c.of-removal.result) (sym many) r.watching));
+          was after c.run.new.self r.shrinks
+          (subst (λ n. WatchingBelow n sort moves (among after) (λ k. ⊥) c.run.new.self) (sym many) r.watching));
       above = r.rest;
     }

@@ -11,5 +11,5 @@ returns-clause-added c =
     λ s h.
     c.write_column.ensures.written s h
     ∙ ap (λ b. get_or sheet s 0 + cond b (2 ^ c.args.k) 0)
-    (in_table n (has c.line_set-holds.result) (line_list (timed c.args.paths.now) (column n sheet) c.args.line)
-    c.line_set-holds.ensures.is s h)
+    (in_table n (has c.line_set.new.holds) (line_list (timed c.args.paths.now) (column n sheet) c.args.line)
+    c.line_set.ensures.is s h)

@@ -1,25 +1,30 @@
-use Rattle.std.proofs.Common.{rules, arith}
-use Rattle.sheet.specs.Sets.{has}
+use Rattle.std.proofs.Common.{ap, ◌∙◌, rules, arith}
+use Rattle.tctl.specs.Checker.{any_move, into, ◌or◌}
+use Rattle.sheet.specs.Sets.{has, listed, stage_count, timed}
 use Rattle.sheet.proofs.Cases.{each_least_set}
 use Rattle.sheet.proofs.Settled.{short_settled}
 use Rattle.sheet.proofs.untils.each_least.Goals as goal
 
-pub tell-soon-requires-clause-settles : goal.tell-soon-requires-clause-settles
-tell-soon-requires-clause-settles c = short_settled c.args.paths.now _ _
+pub tell-requires-clause-settles : goal.tell-requires-clause-settles
+tell-requires-clause-settles c = short_settled c.args.paths.now _ _
 
 pub returns-clause-is : goal.returns-clause-is
 returns-clause-is c =
-    each_least_set c.args.paths.now c.args.f.now c.args.g.now c.args.c (omega arith) (has c.misses-missed.result)
-    (has c.breaks-bad.result) (has c.reached-fails.result) (has c.endless-ever.result) (has c.of-doomed.result)
-    (has c.passes-pass.result) (has c.sources-sources.result) (has c.of-goals.result) (has c.tell-soon.result)
-    (has c.of.result)
-    c.misses-missed.ensures
-    c.breaks-bad.ensures
-    c.reached-fails.ensures.is
-    c.endless-ever.ensures
-    (λ s h. let e = c.of-doomed.ensures s h in search rules)
-    c.passes-pass.ensures
-    c.sources-sources.ensures
-    (λ s h. let e = c.of-goals.ensures s h in search rules)
-    (λ s h. let t = c.tell-soon.ensures.is s h in search rules)
-    (λ s h. let e = c.of.ensures s h in search rules)
+    let paths = c.args.paths.now in
+    each_least_set paths c.args.f.now c.args.g.now c.args.c (omega arith) (has c.fill.new.self)
+    (has c.fill-2.new.self) (has c.reach.new.reached) (has c.keep_endless.new.self) (has c.fill-3.new.self)
+    (has c.fill-4.new.self) (has c.add_sources.new.self) (has c.fill-5.new.self) (has c.tell.new.holds)
+    (has c.fill-6.new.self)
+    (λ s h. let e = c.fill.ensures s h in search rules)
+    (λ s h. let e = c.fill-2.ensures s h in search rules)
+    c.reach.ensures.is
+    c.keep_endless.ensures
+    (λ s h. let e = c.fill-3.ensures s h in search rules)
+    (λ s h. let e = c.fill-4.ensures s h in search rules)
+    (λ s h.
+    c.add_sources.ensures s h
+    ∙ ap (λ b. b or into any_move (timed paths).moves (listed (stage_count paths) c.fill-3.new.self) s)
+    (c.none-sources.ensures s (omega (arith, paths.few))))
+    (λ s h. let e = c.fill-5.ensures s h in search rules)
+    (λ s h. let t = c.tell.ensures.is s h in search rules)
+    (λ s h. let e = c.fill-6.ensures s h in search rules)

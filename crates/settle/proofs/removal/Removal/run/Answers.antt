@@ -5,11 +5,11 @@ use Rattle.settle.specs.declared.removal.Removal.{Removal}
 use Rattle.settle.specs.Chains.{end_at, link_at}
 use Rattle.settle.specs.Removals.{moves_of, Watched, Due, Removed}
 use Rattle.settle.proofs.Removals.{shrinks_more, watching_due, booked_none}
-use Rattle.settle.proofs.removal.Removal.of.Goals as goal
+use Rattle.settle.proofs.removal.Removal.run.Goals as goal
 
 pub watch_all-requires : goal.watch_all-requires
 watch_all-requires c = record {
-  booked = booked_none c.args.chained.now c.args.set.now _ c.requires c.new.ensures;
+  booked = booked_none c.args.chained.now c.args.set.now _ c.requires.set c.requires.none;
 }
 
 pub look-requires-clause-watching : goal.look-requires-clause-watching
@@ -18,7 +18,7 @@ look-requires-clause-watching c stage l t =
     let p = c.args.chained.now in
     let moves = moves_of p in
     let set = among c.loop-gone.set in
-    let r = c.loop-gone.removal in
+    let r = c.loop-gone.self in
     let looks = c.in-Some.ensures in
     let next : ℕ → Type 0 = λ k. Due p c.next_gone.new.self k ⊎ (end_at Enters moves k ≡ c.in-Some.gone) in
     subst (λ (links : List (Option ℕ)). Watched sort moves set next stage (link_at links stage)) (sym looks.watched)
@@ -41,7 +41,7 @@ returns c =
     let sort = c.args.sort in
     let p = c.args.chained.now in
     let after = c.loop-gone.set in
-    let r = c.loop-gone.removal in
+    let r = c.loop-gone.self in
     let inv = c.loop-gone.invariant in
     let first = c.watch_all.ensures.removes in
     let none = c.in_default.ensures in

@@ -1,20 +1,13 @@
-use Rattle.std.proofs.Common.{◌+◌, List, map, get_or, drop, sym, ap, ◌∙◌, arith, false, eqb}
-use Rattle.std.proofs.lemmas.List.{at_drop_more, at_drop_all, get_or-replicate}
+use Rattle.std.proofs.Common.{◌+◌, List, map, get_or, drop, sym, ap, ◌∙◌, false, eqb}
+use Rattle.std.proofs.lemmas.List.{at_drop_more, at_drop_all}
 use Rattle.program.specs.declared.Move.{Move}
-use Rattle.program.specs.Meaning.{no_move, most_stages}
+use Rattle.program.specs.Meaning.{no_move}
 use Rattle.program.specs.Graphs.{timed_move}
 use Rattle.tctl.specs.Checker.{any_move, into, ◌or◌, ◌and◌}
 use Rattle.tctl.proofs.Basics.{table_at}
 use Rattle.sheet.specs.Sets.{has, listed, stage_count}
 use Rattle.sheet.proofs.Sets.{into_add, or_none}
-use Rattle.sheet.proofs.stage_set.StageSet.sources.Goals as goal
-
-pub loop-m-init : goal.loop-m-init
-loop-m-init c =
-    let paths = c.args.paths.now in
-    let set = listed (stage_count paths) c.args.self.now in
-    λ s h. ap (λ b. b or into any_move (map timed_move paths.moves.now) set s)
-    (get_or-replicate most_stages s false false (omega (arith, paths.few)))
+use Rattle.sheet.proofs.stage_set.StageSet.add_sources.Goals as goal
 
 pub loop-m-preserved : goal.loop-m-preserved
 loop-m-preserved c =
@@ -24,13 +17,13 @@ loop-m-preserved c =
     let i = c.loop-m.m-index in
     let m : Move = get_or moves i no_move in
     let ends = paths.within i c.loop-m-test.true in
-    let set = listed n c.args.self.now in
-    let was = c.loop-m.sources in
+    let set = listed n c.args.set.now in
+    let was = c.loop-m.self in
     let next = c.add_source.new.self in
     λ s h.
     into_add any_move set (timed_move m) (map timed_move (drop (i + 1) moves)) s (has was s) (has next s)
     (c.add_source.ensures s
-    ∙ ap (λ b. has was s or (eqb m.leaves s and b)) (sym (table_at (has c.args.self.now) false n m.enters ends.1)))
+    ∙ ap (λ b. has was s or (eqb m.leaves s and b)) (sym (table_at (has c.args.set.now) false n m.enters ends.1)))
     ∙ ap (λ b. has was s or b)
     (sym (at_drop_more (λ (ms : List Move). into any_move (map timed_move ms) set s) moves i no_move
     c.loop-m-test.true))
@@ -39,8 +32,8 @@ loop-m-preserved c =
 pub returns : goal.returns
 returns c =
     let paths = c.args.paths.now in
-    let set = listed (stage_count paths) c.args.self.now in
-    let found = c.loop-m.sources in
+    let set = listed (stage_count paths) c.args.set.now in
+    let found = c.loop-m.self in
     λ s h.
     sym (or_none (has found s))
     ∙ ap (λ b. has found s or b)
