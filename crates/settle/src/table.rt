@@ -25,7 +25,7 @@ use tally::walks::Walks;
 const MOST_TURNS: usize = MOST_STAGES * (MOST_STAGES + 1) + 1;
 
 // So many passes, over so many moves, take no more time than it takes to make a queue and to line it up.
-const FEW_PASSES: usize = 4;
+const FEW_PASSES: usize = 8;
 
 const FEW_MOVES: usize = 1024;
 
