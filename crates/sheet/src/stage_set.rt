@@ -2,6 +2,7 @@
 ghost use Rattle.std.specs.Prelude.{◌≡◌, ℕ, ◌<◌, ◌≤◌, true, false, ◌==◌};
 ghost use Rattle.tctl.specs.Checker.{any_move, endless, into, open?, non, ◌and◌, ◌or◌};
 ghost use Rattle.program.specs.Meaning.{most_stages};
+ghost use Rattle.settle.specs.Rows.{RestKept};
 ghost use Rattle.sheet.specs.Sets.{has, listed, stage_count, timed, Says};
 
 use crate::paths::Paths;
@@ -30,7 +31,8 @@ impl StageSet {
     pub fn fill<F: Fn(usize) -> bool>(&mut self, n: usize, test: F)
         requires few { n ≤ most_stages }
         requires may { (s : ℕ) → s < n → F.pre test s }
-        ensures { (s : ℕ) → s < n → F.post test s (has self.new s) }
+        ensures told { (s : ℕ) → s < n → F.post test s (has self.new s) }
+        ensures above { RestKept n self.old.0 self.new.0 }
     {
         for (s, word) in self.0[..n].iter_mut().enumerate() {
             *word = u32::from(test(s));
@@ -47,7 +49,8 @@ impl StageSet {
     // Takes the stages of another set out of the first n.
     pub fn remove(&mut self, n: usize, other: &StageSet)
         requires { n ≤ most_stages }
-        ensures { Says n self.new (λ s. has self.old s and non (has other.now s)) }
+        ensures left { Says n self.new (λ s. has self.old s and non (has other.now s)) }
+        ensures above { RestKept n self.old.0 self.new.0 }
     {
         for (s, word) in self.0[..n].iter_mut().enumerate() {
             if other.has(s) {
@@ -58,9 +61,10 @@ impl StageSet {
 
     // Leaves the greatest part in which each stage has a move into the part.
     pub fn keep_endless(&mut self, paths: &Paths)
-        ensures { listed (stage_count paths.now) self.new
+        ensures left { listed (stage_count paths.now) self.new
             ≡ endless (timed paths.now) any_move (listed (stage_count paths.now) self.old)
             (stage_count paths.now) }
+        ensures above { RestKept (stage_count paths.now) self.old.0 self.new.0 }
     {
         paths.keep_endless(Sort::Any, &mut self.0);
     }
@@ -78,7 +82,7 @@ impl StageSet {
 
     // Adds the stages with a move into another set.
     pub fn add_sources(&mut self, paths: &Paths, set: &StageSet)
-        ensures { Says (stage_count paths.now) self.new (λ s. has self.old s
+        ensures { (s : ℕ) → has self.new s ≡ (has self.old s
             or into any_move (timed paths.now).moves (listed (stage_count paths.now) set.now) s) }
     {
         for m in paths.moves {

@@ -14,7 +14,7 @@ returns-in-One-clause-is c =
     let n = stage_count paths in
     let sheet = c.args.sheet.now in
     same_stages paths.stages.now (has c.fill.new.self) (λ (s : ℕ). open? p s)
-    (λ s h. let e = c.fill.ensures s h in search rules)
+    (λ s h. let e = c.fill.ensures.told s h in search rules)
     ∙ ap (line_list p (column n sheet)) (sym c.in-One.is)
 
 pub returns-in-Letter-clause-is : goal.returns-in-Letter-clause-is
@@ -24,7 +24,7 @@ returns-in-Letter-clause-is c =
     let letter = c.in-Letter.letter in
     let n = stage_count paths in
     same_stages paths.stages.now (has c.fill-in-Letter.new.self) (λ (s : ℕ). open? p s and marked p s letter)
-    (λ s h. let e = c.fill-in-Letter.ensures s h in search rules)
+    (λ s h. let e = c.fill-in-Letter.ensures.told s h in search rules)
     ∙ ap (line_list p (column n c.args.sheet.now)) (sym c.in-Letter.is)
 
 pub returns-in-Not-clause-is : goal.returns-in-Not-clause-is
@@ -37,7 +37,7 @@ returns-in-Not-clause-is c =
     same_stages paths.stages.now (has holds) (λ (s : ℕ). open? p s and non (at (col i) s))
     (λ s h.
     let e : has holds s ≡ (open? p s and non (bit i (get_or c.args.sheet.now s 0))) =
-    (let o = c.fill-in-Not.ensures s h in search rules) in
+    (let o = c.fill-in-Not.ensures.told s h in search rules) in
     e ∙ ap (λ x. open? p s and non x) (column_at (stage_count paths) c.args.sheet.now i s h))
     ∙ ap (line_list p col) (sym c.in-Not.is)
 
@@ -53,7 +53,7 @@ returns-in-And-clause-is c =
     same_stages paths.stages.now (has holds) (λ (s : ℕ). at (col i) s and at (col j) s)
     (λ s h.
     let e : has holds s ≡ (bit i (get_or sheet s 0) and bit j (get_or sheet s 0)) =
-    (let o = c.fill-in-And.ensures s h in search rules) in
+    (let o = c.fill-in-And.ensures.told s h in search rules) in
     e ∙ columns_at (stage_count paths) sheet ◌and◌ i j s h)
     ∙ ap (line_list p col) (sym c.in-And.is)
 
@@ -69,6 +69,6 @@ returns-in-Or-clause-is c =
     same_stages paths.stages.now (has holds) (λ (s : ℕ). at (col i) s or at (col j) s)
     (λ s h.
     let e : has holds s ≡ (bit i (get_or sheet s 0) or bit j (get_or sheet s 0)) =
-    (let o = c.fill-in-Or.ensures s h in search rules) in
+    (let o = c.fill-in-Or.ensures.told s h in search rules) in
     e ∙ columns_at (stage_count paths) sheet ◌or◌ i j s h)
     ∙ ap (line_list p col) (sym c.in-Or.is)

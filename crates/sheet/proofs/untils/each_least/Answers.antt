@@ -15,16 +15,16 @@ returns-clause-is c =
     (has c.fill-2.new.self) (has c.reach.new.reached) (has c.keep_endless.new.self) (has c.fill-3.new.self)
     (has c.fill-4.new.self) (has c.add_sources.new.self) (has c.fill-5.new.self) (has c.tell.new.holds)
     (has c.fill-6.new.self)
-    (λ s h. let e = c.fill.ensures s h in search rules)
-    (λ s h. let e = c.fill-2.ensures s h in search rules)
+    (λ s h. let e = c.fill.ensures.told s h in search rules)
+    (λ s h. let e = c.fill-2.ensures.told s h in search rules)
     c.reach.ensures.is
-    c.keep_endless.ensures
-    (λ s h. let e = c.fill-3.ensures s h in search rules)
-    (λ s h. let e = c.fill-4.ensures s h in search rules)
+    c.keep_endless.ensures.left
+    (λ s h. let e = c.fill-3.ensures.told s h in search rules)
+    (λ s h. let e = c.fill-4.ensures.told s h in search rules)
     (λ s h.
-    c.add_sources.ensures s h
+    c.add_sources.ensures s
     ∙ ap (λ b. b or into any_move (timed paths).moves (listed (stage_count paths) c.fill-3.new.self) s)
     (c.none-sources.ensures s (omega (arith, paths.few))))
-    (λ s h. let e = c.fill-5.ensures s h in search rules)
+    (λ s h. let e = c.fill-5.ensures.told s h in search rules)
     (λ s h. let t = c.tell.ensures.is s h in search rules)
-    (λ s h. let e = c.fill-6.ensures s h in search rules)
+    (λ s h. let e = c.fill-6.ensures.told s h in search rules)

@@ -11,6 +11,6 @@ pub returns-clause-is : goal.returns-clause-is
 returns-clause-is c =
     some_most_set c.args.paths.now c.args.f.now c.args.g.now c.args.c (omega arith) (has c.fill.new.self)
     (has c.tell.new.holds) (has c.fill-2.new.self)
-    (λ s h. let e = c.fill.ensures s h in search rules)
+    (λ s h. let e = c.fill.ensures.told s h in search rules)
     c.tell.ensures.is
-    (λ s h. let e = c.fill-2.ensures s h in search rules)
+    (λ s h. let e = c.fill-2.ensures.told s h in search rules)

@@ -20,23 +20,23 @@ loop-m-preserved c =
     let set = listed n c.args.set.now in
     let was = c.loop-m.self in
     let next = c.add_source.new.self in
-    λ s h.
+    λ s.
     into_add any_move set (timed_move m) (map timed_move (drop (i + 1) moves)) s (has was s) (has next s)
     (c.add_source.ensures s
     ∙ ap (λ b. has was s or (eqb m.leaves s and b)) (sym (table_at (has c.args.set.now) false n m.enters ends.1)))
     ∙ ap (λ b. has was s or b)
     (sym (at_drop_more (λ (ms : List Move). into any_move (map timed_move ms) set s) moves i no_move
     c.loop-m-test.true))
-    ∙ c.loop-m.invariant s h
+    ∙ c.loop-m.invariant s
 
 pub returns : goal.returns
 returns c =
     let paths = c.args.paths.now in
     let set = listed (stage_count paths) c.args.set.now in
     let found = c.loop-m.self in
-    λ s h.
+    λ s.
     sym (or_none (has found s))
     ∙ ap (λ b. has found s or b)
     (sym (at_drop_all (λ (ms : List Move). into any_move (map timed_move ms) set s) paths.moves.now
     c.loop-m.m-index c.loop-m-test.false))
-    ∙ c.loop-m.invariant s h
+    ∙ c.loop-m.invariant s

@@ -1,4 +1,4 @@
-use Rattle.std.proofs.Common.{◌≡◌, ℕ, ◌<◌, map, drop}
+use Rattle.std.proofs.Common.{◌≡◌, ℕ, map, drop}
 use Rattle.tctl.specs.Checker.{any_move, into, ◌or◌}
 use Rattle.program.specs.Graphs.{timed_move}
 use Rattle.sheet.specs.Sets.{has, listed, stage_count}
@@ -10,5 +10,5 @@ invariant-loop-m l =
     let n = stage_count l.paths in
     let set = listed n l.set in
     let moves = l.paths.moves.now in
-    (s : ℕ) → s < n → (has l.self s or into any_move (map timed_move (drop l.m-index moves)) set s)
+    (s : ℕ) → (has l.self s or into any_move (map timed_move (drop l.m-index moves)) set s)
     ≡ (has l.initial.self s or into any_move (map timed_move moves) set s)
