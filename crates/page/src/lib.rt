@@ -37,7 +37,8 @@ pub fn answer(heap: Global, page: &[u8], out: &mut Vec<u8>) -> Result<Summary, A
     let mut areas = Areas { stages, moves };
     let mut tray = Tray::new(&mut areas);
     let before = out.len();
-    out.reserve(FIRST_ROOM)?;
+    // Where it can't be had, each answer asks for the room that it takes.
+    let _first = out.reserve(FIRST_ROOM);
     let Ok(summary) = answer_over(&mut tray, page, out) else {
         out.truncate(before);
         return Err(AllocError);

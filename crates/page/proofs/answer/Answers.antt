@@ -15,9 +15,9 @@ returns-clause-answers c =
     let room : tray_room tray ≡ full_room =
     ap (λ n. record { stages = n; moves = room_for_moves (vec_len tray.areas.now.moves) }) stages
     ∙ ap (λ n. record { stages = most_stages; moves = n }) moves in
-    rw c.reserve.ensures.items at rw room at rw c.new-tray.ensures.holds at c.in-Ok.ensures.adds
+    rw c.reserve-first.ensures.items at rw room at rw c.new-tray.ensures.holds at c.in-Ok.ensures.adds
 
 pub returns-in_default-clause-unchanged : goal.returns-in_default-clause-unchanged
 returns-in_default-clause-unchanged c =
     let n : c.len-before.result ≡ length c.args.out.now.items = search rules in
-    c.truncate.ensures.items ∙ rw n (rw c.reserve.ensures.items at c.in_default.ensures.kept)
+    c.truncate.ensures.items ∙ rw n (rw c.reserve-first.ensures.items at c.in_default.ensures.kept)
